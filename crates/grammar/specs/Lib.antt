@@ -1,0 +1,3 @@
+pub mod Kinds
+pub mod Lexer
+pub mod Numbers

@@ -1,0 +1,205 @@
+-- Numbers: integers, the bits of floats, decimals over whole numbers. 01: "Types and values", questions 4, 7, 15 and 17.
+-- Assumes nothing.
+use mathlib.Core.Bool.{Bool, true, false, not, _&&_, _||_}
+use mathlib.Core.List.{List, [], _∷_, _++_}
+use mathlib.Core.Option.{Option, none, some}
+use Prim.Native.Nat.{ℕ, zero, suc, _+_, _-_, _*_, _/_, _%_, _^_}
+use lib.Dec.{ltb, leb, eqb}
+use lib.ListN.{length}
+use Rattle.program.specs.Bytes.{bytes, byte}
+use Rattle.program.specs.Choice.{pick, test}
+use Rattle.program.specs.Class.{classOf, isDigit, isHex}
+use Rattle.program.specs.Prog.{Prog, ret, fail, look, eat, here, lead, scan, last, _>>=_}
+use Rattle.grammar.specs.Lexer.{_>>_, refuse, byteIf}
+
+-- "A number begins with a digit; later underscores are passed over."
+unfoldable pub digitStep : ℕ → ℕ → Option ℕ
+digitStep q x = pick (isDigit x) (some 1) (pick (eqb x (byte "_")) (pick (eqb q 0) none (some 1)) none)
+
+unfoldable pub digits : Prog (List ℕ)
+digits = scan digitStep 0 ret
+
+-- the whole number that digits behind a write
+unfoldable pub valueOf : ℕ → List ℕ → ℕ
+valueOf a [] = a
+valueOf a (x ∷ r) = valueOf (pick (eqb x (byte "_")) a (a * 10 + classOf x)) r
+
+-- how many digits, underscores not counted
+unfoldable pub countDigits : List ℕ → ℕ
+countDigits [] = 0
+countDigits (x ∷ r) = pick (eqb x (byte "_")) 0 1 + countDigits r
+
+unfoldable pub numberOf : ℕ → ℕ → List ℕ → Prog ℕ
+numberOf lo hi [] = refuse 4
+numberOf lo hi (x ∷ r) = elim (leb lo (valueOf 0 (x ∷ r)) && leb (valueOf 0 (x ∷ r)) hi) [ true ↦ ret (valueOf 0 (x ∷ r)) | false ↦ refuse 15 ]
+
+-- `parse_int(10)`: question 4, and question 15 behind the digits
+unfoldable pub parseInt : ℕ → ℕ → Prog ℕ
+parseInt lo hi = digits >>= numberOf lo hi
+
+-- "other numbers below 2^64"
+abbrev pub most64 : ℕ
+most64 = 18446744073709551615
+
+-- Integers: "two words, two's complement of 128 bits, high first".
+abbrev pub halves : ℕ → List ℕ
+halves n = n / 2 ^ 64 ∷ n % 2 ^ 64 ∷ []
+
+unfoldable pub twos : Bool → ℕ → ℕ
+twos true n = (2 ^ 128 - n) % 2 ^ 128
+twos false n = n
+
+-- question 7: "an integer within signed 128 bits"
+unfoldable pub largest : Bool → ℕ
+largest true = 2 ^ 127
+largest false = 2 ^ 127 - 1
+
+-- Floats, as their 64 bits.
+unfoldable pub hexOf : ℕ → List ℕ → ℕ
+hexOf a [] = a
+hexOf a (x ∷ r) = hexOf (a * 16 + classOf x) r
+
+unfoldable pub hexStep : ℕ → ℕ → Option ℕ
+hexStep q x = pick (isHex x) (some 0) none
+
+unfoldable pub inside : ℕ → ℕ → ℕ → Bool
+inside lo hi n = leb lo n && leb n hi
+
+-- `parse_hex_float`, behind `0x`: "takes 1 to 16 hex digits as bits"
+unfoldable pub parseHexFloat : Prog ℕ
+parseHexFloat = scan hexStep 0 (λ w. elim (inside 1 16 (length w)) [ true ↦ ret (hexOf 0 w) | false ↦ refuse 7 ])
+
+-- the place of the highest bit of n, where u is at least that place
+unfoldable pub log2 : ℕ → ℕ → ℕ
+log2 zero n = 0
+log2 (suc u) n = test (ltb n 2) (λ x. 0) (λ x. suc (log2 u (n / 2)))
+
+-- Widening of binary32: sign, exponent and fraction of 32 bits. "In widening, a subnormal is shifted by its count of leading zeros. A NaN keeps
+-- its payload with the quiet bit set."
+unfoldable pub widenParts : ℕ → ℕ → ℕ → ℕ
+widenParts s e f =
+    s * 2 ^ 63 +
+    pick (eqb e 255) (2047 * 2 ^ 52 + pick (eqb f 0) 0 (pick (leb (2 ^ 22) f) f (f + 2 ^ 22) * 2 ^ 29))
+    (pick (eqb e 0) (pick (eqb f 0) 0 ((log2 23 f + 874) * 2 ^ 52 + (f - 2 ^ log2 23 f) * 2 ^ (52 - log2 23 f)))
+    ((e + 896) * 2 ^ 52 + f * 2 ^ 29))
+
+unfoldable pub widen : ℕ → ℕ
+widen b = widenParts (b / 2 ^ 31) (b / 2 ^ 23 % 256) (b % 2 ^ 23)
+
+-- behind `f0x`: "exactly 8 (binary32 widened) or 16"
+unfoldable pub parseF0x : Prog ℕ
+parseF0x =
+    scan hexStep 0 (λ w. elim (eqb (length w) 8)
+    [ true ↦ ret (widen (hexOf 0 w))
+    | false ↦ elim (eqb (length w) 16) [ true ↦ ret (hexOf 0 w) | false ↦ refuse 7 ] ])
+
+unfoldable pub isOdd : ℕ → Bool
+isOdd n = eqb (n % 2) 1
+
+-- The binary64 nearest num / den, ties to even, for values from 10^-22 up to 10^37. The value is scaled by 2^126, so that every such value is at
+-- least 2^52; t more bits than 53 stand in front of the point then. Its significand is q of 53 bits, and r is what is left of m.
+unfoldable pub rounded : ℕ → ℕ → ℕ → ℕ
+rounded q r m = pick (ltb m (2 * r) || (eqb m (2 * r) && isOdd q)) (q + 1) q
+
+unfoldable pub nearestAt : ℕ → ℕ → ℕ → ℕ
+nearestAt t n m = (t + 948) * 2 ^ 52 + rounded (n / m) (n % m) m
+
+unfoldable pub nearest : ℕ → ℕ → ℕ
+nearest num den = nearestAt (log2 256 (num * 2 ^ 126 / den) - 52) (num * 2 ^ 126) (den * 2 ^ (log2 256 (num * 2 ^ 126 / den) - 52))
+
+-- how many zeros stand at the end of a number's digits, of which there are at most u
+unfoldable pub zerosOf : ℕ → ℕ → ℕ
+zerosOf zero m = 0
+zerosOf (suc u) m = test (eqb (m % 10) 0) (λ x. suc (zerosOf u (m / 10))) (λ x. 0)
+
+-- m times ten to the a less b. "Supported: zero, or at most 15 digits without outer zeros, times ten to the -22 up to 22."
+unfoldable pub scaledBits : ℕ → ℕ → ℕ → Option ℕ
+scaledBits m a b =
+    elim (ltb m (10 ^ 15) && (leb a (b + 22) && leb b (a + 22)))
+    [ true ↦ some (pick (leb b a) (nearest (m * 10 ^ (a - b)) 1) (nearest m (10 ^ (b - a))))
+    | false ↦ none ]
+
+-- digits m, of which there are at most u, times ten to the a less b
+unfoldable pub decimalBits : ℕ → ℕ → ℕ → ℕ → Option ℕ
+decimalBits u m a b = elim (eqb m 0) [ true ↦ some 0 | false ↦ scaledBits (m / 10 ^ zerosOf u m) (a + zerosOf u m) b ]
+
+-- What stands in a numeral (`read_numeric`), behind its sign: digits; whether there is a point, and digits behind it; whether there is an
+-- exponent, whether that is negative, and its digits.
+pub record Numeral : Type 0 where
+  pub whole : List ℕ
+  pub point : Bool
+  pub part : List ℕ
+  pub exponent : Bool
+  pub down : Bool
+  pub power : List ℕ
+
+-- `read_sign`: is it a minus?
+unfoldable pub readSign : Prog Bool
+readSign = byteIf (byte "+") (ret false) (byteIf (byte "-") (ret true) (ret false))
+
+unfoldable pub readExponent : List ℕ → Bool → List ℕ → Prog Numeral
+readExponent w p f =
+    (do
+      s ← readSign
+      e ← digits
+      ret (record { whole = w; point = p; part = f; exponent = true; down = s; power = e }))
+
+unfoldable pub behindPoint : List ℕ → Bool → List ℕ → Prog Numeral
+behindPoint w p f =
+    byteIf (byte "e") (readExponent w p f)
+    (byteIf (byte "E") (readExponent w p f)
+    (ret (record { whole = w; point = p; part = f; exponent = false; down = false; power = [] })))
+
+unfoldable pub readNumeric : Prog Numeral
+readNumeric = do
+  w ← digits
+  byteIf (byte ".") (digits >>= λ f. behindPoint w true f) (behindPoint w false [])
+
+unfoldable pub isEmpty : List ℕ → Bool
+isEmpty [] = true
+isEmpty (x ∷ r) = false
+
+unfoldable pub isFloat : Numeral → Bool
+isFloat n = n .point || n .exponent
+
+-- "A numeral is valid with a digit before or behind its point and, with `e` or `E`, one behind that."
+unfoldable pub isValid : Numeral → Bool
+isValid n = not (isEmpty (n .whole) && isEmpty (n .part)) && not (n .exponent && isEmpty (n .power))
+
+unfoldable pub digitsOf : Numeral → ℕ
+digitsOf n = valueOf (valueOf 0 (n .whole)) (n .part)
+
+unfoldable pub upOf : Numeral → ℕ
+upOf n = pick (n .down) 0 (valueOf 0 (n .power))
+
+unfoldable pub downOf : Numeral → ℕ
+downOf n = countDigits (n .part) + pick (n .down) (valueOf 0 (n .power)) 0
+
+unfoldable pub floatOf : Numeral → Option ℕ
+floatOf n = decimalBits (length (n .whole) + length (n .part)) (digitsOf n) (upOf n) (downOf n)
+
+-- "a leading `-` sets its sign bit, at zero too"
+unfoldable pub signed : Bool → ℕ → ℕ
+signed neg bits = pick neg (2 ^ 63) 0 + bits
+
+-- what a literal is: an integer's two words, or a float's bits
+pub data Literal : Type 0 where
+  int : List ℕ → Literal
+  float : ℕ → Literal
+
+unfoldable pub integerOf : Bool → List ℕ → Prog Literal
+integerOf neg [] = refuse 7
+integerOf neg (x ∷ r) = elim (leb (valueOf 0 (x ∷ r)) (largest neg)) [ true ↦ ret (int (halves (twos neg (valueOf 0 (x ∷ r))))) | false ↦ refuse 7 ]
+
+unfoldable pub decimalOf : Bool → Numeral → Prog Literal
+decimalOf neg n =
+    elim (isValid n)
+    [ true ↦ elim (floatOf n) [ some b ↦ ret (float (signed neg b)) | none ↦ refuse 17 ]
+    | false ↦ refuse 7 ]
+
+-- a numeral behind its sign: "One with `.`, `e` or `E` is the binary64 nearest its value"; questions 7 and 17 behind it
+unfoldable pub literalOf : Bool → Numeral → Prog Literal
+literalOf neg n = elim (isFloat n) [ true ↦ decimalOf neg n | false ↦ integerOf neg (n .whole) ]
+
+unfoldable pub parseNumeral : Bool → Prog Literal
+parseNumeral neg = readNumeric >>= literalOf neg

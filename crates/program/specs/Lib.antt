@@ -1,0 +1,4 @@
+pub mod Bytes
+pub mod Choice
+pub mod Class
+pub mod Prog

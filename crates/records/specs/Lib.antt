@@ -1,0 +1,5 @@
+pub mod Words
+pub mod Pieces
+pub mod Law
+pub mod Same
+pub mod Piece

@@ -1,0 +1,275 @@
+-- Reading a text by pieces, and re-reading after an edit, over any reader of one piece. Definitions only.
+use mathlib.Core.Path.{_≡_, refl}
+use mathlib.Core.Bool.{Bool, true, false, _&&_, not}
+use mathlib.Core.Option.{Option, none, some}
+use mathlib.Core.List.{List, [], _∷_, _++_, map}
+use Prim.Native.Nat.{ℕ, zero, suc, _+_, _-_, _*_, _/_, _%_, _^_}
+use lib.Dec.{ltb, leb, eqb}
+use lib.ListN.{length, take, drop, getD, replicate}
+use Rattle.program.specs.Bytes.{bytes}
+use Rattle.program.specs.Class.{isWord}
+use Rattle.program.specs.Prog.{ends}
+use Rattle.records.specs.Words.{pack}
+
+-- What reading at the start of a suffix of the text gives.
+pub data HeadRead : Type 0 where
+  head : ℕ → List ℕ → HeadRead           -- length, words
+  badHead : ℕ → ℕ → HeadRead             -- number, place from the suffix's start
+
+pub data BlockRead : Type 0 where
+  block : ℕ → List ℕ → BlockRead
+  tail : ℕ → BlockRead
+  badBlock : ℕ → ℕ → BlockRead
+
+-- Pieces in order, each a length and something (its words, their number, or where they come from), and how they end.
+pub data Run (A : Type 0) : Type 0 where
+  done : Run A
+  stop : ℕ → ℕ → Run A                   -- number, place from the end of the last piece
+  item : ℕ → A → Run A → Run A
+
+unfoldable pub mapRun : {A B : Type 0} → (A → B) → Run A → Run B
+mapRun f done = done
+mapRun f (stop q p) = stop q p
+mapRun f (item e a r) = item e (f a) (mapRun f r)
+
+-- Questions 1 and 2.
+pub data Verdict : Type 0 where
+  fine : Verdict
+  refused : ℕ → ℕ → Verdict
+
+unfoldable pub firstHigh : ℕ → List ℕ → Verdict
+firstHigh i [] = fine
+firstHigh i (x ∷ xs) = elim (leb x 127) [ true ↦ firstHigh (suc i) xs | false ↦ refused 2 i ]
+
+unfoldable pub whole : List ℕ → Verdict
+whole text = elim (leb (length text) 16777216) [ true ↦ firstHigh 0 text | false ↦ refused 1 16777216 ]
+
+-- Questions 20 and 21, asked of the pieces of a run in order; the run's own refusal in its turn.
+-- `words`, `dir`: the lengths of the lent arrays. `i`, `pos`, `at`: number, start and first word of the next piece.
+unfoldable pub judge : (words dir i pos at : ℕ) → Run ℕ → Verdict
+judge words dir i pos at done = fine
+judge words dir i pos at (stop q p) = refused q (pos + p)
+judge words dir i pos at (item e n r) =
+  elim (leb (at + n) words && ltb (at + n) 4294967296)
+    [ true ↦ elim (leb (i * 2 + 2) dir) [ true ↦ judge words dir (suc i) (pos + e) (at + n) r | false ↦ refused 21 (pos + e) ]
+    | false ↦ refused 20 (pos + e) ]
+
+-- The arrays that a list of pieces leaves.
+unfoldable pub pad : ℕ → List ℕ → List ℕ
+pad n xs = xs ++ replicate (n - length xs) 0
+
+unfoldable pub allWords : Run (List ℕ) → List ℕ
+allWords done = []
+allWords (stop q p) = []
+allWords (item e ws r) = ws ++ allWords r
+
+unfoldable pub entries : (pos at : ℕ) → Run (List ℕ) → List ℕ
+entries pos at done = []
+entries pos at (stop q p) = []
+entries pos at (item e ws r) = pack pos e ∷ pack at (length ws) ∷ entries (pos + e) (at + length ws) r
+
+unfoldable pub countRun : {A : Type 0} → Run A → ℕ
+countRun done = 0
+countRun (stop q p) = 0
+countRun (item e a r) = suc (countRun r)
+
+-- What a call leaves: both arrays whole, and the answer. A refusal leaves zeros.
+pub data Answer : Type 0 where
+  no-at : ℕ → ℕ → Answer                  -- number, place
+  count : ℕ → Answer                      -- entry count
+
+pub data Left : Type 0 where
+  left : Answer → List ℕ → List ℕ → Left  -- answer, words, directory
+
+unfoldable pub leave : (words dir : ℕ) → Verdict → Run (List ℕ) → Left
+leave words dir fine r = left (count (countRun r)) (pad words (allWords r)) (pad dir (entries 0 0 r))
+leave words dir (refused q p) r = left (no-at q p) (pad words []) (pad dir [])
+
+-- If the first verdict is fine, the second decides.
+unfoldable pub andThen : Verdict → Verdict → Verdict
+andThen fine v = v
+andThen (refused q p) v = refused q p
+
+-- The older directory, taken apart: each piece's length, first word and number of words. `none`: question 22 refuses.
+pub data Old : Type 0 where
+  old : ℕ → ℕ → ℕ → Old
+
+unfoldable pub consOld : Old → Option (List Old) → Option (List Old)
+consOld o none = none
+consOld o (some os) = some (o ∷ os)
+
+unfoldable pub chain : (text words : ℕ) (n pos at : ℕ) → List ℕ → Option (List Old)
+chain text words zero pos at dir = some []
+chain text words (suc n) pos at [] = none
+chain text words (suc n) pos at (x ∷ []) = none
+chain text words (suc n) pos at (x ∷ y ∷ dir) =
+  elim (eqb (x / 4294967296) pos && eqb (y / 4294967296) at && leb (pos + x % 4294967296) text && leb (at + y % 4294967296) words)
+    [ true ↦ consOld (old (x % 4294967296) at (y % 4294967296)) (chain text words n (pos + x % 4294967296) (at + y % 4294967296) dir)
+    | false ↦ none ]
+
+unfoldable pub olds : (text words n : ℕ) → List ℕ → Option (List Old)
+olds text words n dir = elim (leb 2 n) [ true ↦ chain text words n 0 0 dir | false ↦ none ]
+
+-- The longest common prefix, and the length of the longest common suffix.
+unfoldable pub common : List ℕ → List ℕ → List ℕ
+common [] ys = []
+common (x ∷ xs) [] = []
+common (x ∷ xs) (y ∷ ys) = elim (eqb x y) [ true ↦ x ∷ common xs ys | false ↦ [] ]
+
+unfoldable pub commonEnd : (i j : ℕ) → List ℕ → List ℕ → ℕ
+commonEnd zero j xs ys = 0
+commonEnd (suc i) zero xs ys = 0
+commonEnd (suc i) (suc j) xs ys = elim (eqb (getD xs i 0) (getD ys j 0)) [ true ↦ suc (commonEnd i j xs ys) | false ↦ 0 ]
+
+-- `leads w s`: s begins with exactly the word w and a byte that is no letter, digit or `_`.
+unfoldable pub leads : List ℕ → List ℕ → Bool
+leads [] [] = false
+leads [] (x ∷ xs) = not (isWord x)
+leads (w ∷ ws) [] = false
+leads (w ∷ ws) (x ∷ xs) = eqb w x && leads ws xs
+
+unfoldable pub addrspace : List ℕ
+addrspace = bytes "addrspace"
+
+-- The text from a block's end, as far as it is common to both texts, settles that end.
+unfoldable pub closes : List ℕ → Bool
+closes s = ends s && not (leads addrspace s)
+
+-- How many pieces are kept in front. `s`: the common text from the first piece's start on.
+unfoldable pub keptRest : List ℕ → List Old → ℕ
+keptRest s [] = 0
+keptRest s (old e f n ∷ []) = elim (ltb e (length s)) [ true ↦ 1 | false ↦ 0 ]
+keptRest s (old e f n ∷ o ∷ os) = elim (closes (drop e s)) [ true ↦ suc (keptRest (drop e s) (o ∷ os)) | false ↦ 0 ]
+
+unfoldable pub keptFront : List ℕ → List Old → ℕ
+keptFront s [] = 0
+keptFront s (old e f n ∷ os) = elim (ltb e (length s)) [ true ↦ suc (keptRest (drop e s) os) | false ↦ 0 ]
+
+-- Where the words of a piece come from.
+pub data Source : Type 0 where
+  fresh : List ℕ → Source
+  kept : ℕ → ℕ → Source                   -- first word, number of words, before the call
+
+unfoldable pub size : Source → ℕ
+size (fresh ws) = length ws
+size (kept f n) = n
+
+unfoldable pub wordsOf : List ℕ → Source → List ℕ
+wordsOf words (fresh ws) = ws
+wordsOf words (kept f n) = take n (drop f words)
+
+unfoldable pub isFresh : Source → ℕ
+isFresh (fresh ws) = 1
+isFresh (kept f n) = 0
+
+unfoldable pub sumRun : Run ℕ → ℕ
+sumRun done = 0
+sumRun (stop q p) = 0
+sumRun (item e n r) = n + sumRun r
+
+-- Old pieces as a run, in front of another.
+unfoldable pub before : List Old → Run Source → Run Source
+before [] r = r
+before (old e f n ∷ os) r = item e (kept f n) (before os r)
+
+unfoldable pub oldSizes : List Old → ℕ
+oldSizes [] = 0
+oldSizes (old e f n ∷ os) = e + oldSizes os
+
+unfoldable pub oldWords : List Old → ℕ
+oldWords [] = 0
+oldWords (old e f n ∷ os) = n + oldWords os
+
+-- The old pieces from the first that starts at `target`.
+unfoldable pub from : (target pos : ℕ) → List Old → Option (List Old)
+from target pos [] = none
+from target pos (old e f n ∷ os) = elim (eqb pos target) [ true ↦ some (old e f n ∷ os) | false ↦ from target (pos + e) os ]
+
+-- Old pieces but the head, with the head's end.
+unfoldable pub fromBlocks : ℕ → List Old → Option (List Old)
+fromBlocks target [] = none
+fromBlocks target (old e f n ∷ os) = from target e os
+
+-- The old pieces that are kept behind, where s is the newer text behind a head or block just read.
+unfoldable pub joins : (c olen : ℕ) (os : List Old) → List ℕ → Option (List Old)
+joins c olen os s = elim (leb (length s) c) [ true ↦ fromBlocks (olen - length s) os | false ↦ none ]
+
+unfoldable pub endOf : (older newer : List ℕ) → ℕ
+endOf older newer =
+  commonEnd (length older - length (common older newer)) (length newer - length (common older newer))
+    (drop (length (common older newer)) older) (drop (length (common older newer)) newer)
+
+-- What re-reading leaves: arrays and answer, the number of the first piece read, and how many are read.
+pub data Again : Type 0 where
+  again-left : Left → ℕ → ℕ → Again
+
+unfoldable pub leftOf : Again → Left
+leftOf (again-left l a b) = l
+
+unfoldable pub leaveAgain : (words : List ℕ) (dir : ℕ) → Verdict → ℕ → Run Source → Run Source → Again
+leaveAgain words dir fine k r all = again-left (leave (length words) dir fine (mapRun (wordsOf words) all)) k (sumRun (mapRun isFresh r))
+leaveAgain words dir (refused q p) k r all = again-left (leave (length words) dir (refused q p) (mapRun (wordsOf words) all)) 0 0
+
+module _ (headAt : List ℕ → HeadRead) (blockAt : List ℕ → BlockRead) where
+  -- A full reading.
+  unfoldable pub blocksIn : ℕ → List ℕ → Run (List ℕ)
+  blocksIn zero s = done
+  blocksIn (suc n) s =
+    elim (blockAt s)
+      [ block e ws ↦ item e ws (blocksIn n (drop e s))
+      | tail e ↦ item e [] done
+      | badBlock q p ↦ stop q p ]
+
+  unfoldable pub blocks : List ℕ → Run (List ℕ)
+  blocks s = blocksIn (suc (length s)) s
+
+  unfoldable pub reading : List ℕ → Run (List ℕ)
+  reading s = elim (headAt s) [ head e ws ↦ item e ws (blocks (drop e s)) | badHead q p ↦ stop q p ]
+
+  unfoldable pub fullVerdict : (words dir : ℕ) → List ℕ → Verdict
+  fullVerdict words dir text = andThen (whole text) (judge words dir 0 0 0 (mapRun length (reading text)))
+
+  unfoldable pub full : (words dir : ℕ) → List ℕ → Left
+  full words dir text = leave words dir (fullVerdict words dir text) (reading text)
+
+  -- Reading again. `c`: the common end. `olen`: the older text's length. `os`: the older pieces.
+  -- From a block on, behind what is kept in front or behind a piece just read that no old piece joins.
+  unfoldable pub againIn : (c olen : ℕ) (os : List Old) → ℕ → List ℕ → Run Source
+  againIn c olen os zero s = done
+  againIn c olen os (suc n) s =
+    elim (blockAt s)
+      [ block e ws ↦ item e (fresh ws) (elim (joins c olen os (drop e s)) [ some ps ↦ before ps done | none ↦ againIn c olen os n (drop e s) ])
+      | tail e ↦ item e (fresh []) done
+      | badBlock q p ↦ stop q p ]
+
+  unfoldable pub again : (c olen : ℕ) (os : List Old) → List ℕ → Run Source
+  again c olen os s = againIn c olen os (suc (length s)) s
+
+  -- The pieces that are not kept in front. `k`: how many are.
+  unfoldable pub behindFront : (c olen : ℕ) (os : List Old) (k : ℕ) → List ℕ → Run Source
+  behindFront c olen os zero newer =
+    elim (headAt newer)
+      [ head e ws ↦ item e (fresh ws) (elim (joins c olen os (drop e newer)) [ some ps ↦ before ps done | none ↦ again c olen os (drop e newer) ])
+      | badHead q p ↦ stop q p ]
+  behindFront c olen os (suc k) newer =
+    elim (ltb (suc k) (length os)) [ true ↦ again c olen os (drop (oldSizes (take (suc k) os)) newer) | false ↦ done ]
+
+  -- Re-reading, the older directory taken apart. Nothing here sees what the older words hold.
+  unfoldable pub keeps : (older newer : List ℕ) → List Old → ℕ
+  keeps older newer os = keptFront (common older newer) os
+
+  unfoldable pub rest : (older newer : List ℕ) → List Old → Run Source
+  rest older newer os = behindFront (endOf older newer) (length older) os (keeps older newer os) newer
+
+  unfoldable pub judgeAgain : (words dir : ℕ) (older newer : List ℕ) → List Old → Verdict
+  judgeAgain words dir older newer os =
+    judge words dir (keeps older newer os) (oldSizes (take (keeps older newer os) os)) (oldWords (take (keeps older newer os) os)) (mapRun size (rest older newer os))
+
+  unfoldable pub rereadOf : (words dir : List ℕ) (older newer : List ℕ) → Option (List Old) → Again
+  rereadOf words dir older newer none = leaveAgain words (length dir) (andThen (whole newer) (refused 22 0)) 0 done done
+  rereadOf words dir older newer (some os) =
+    leaveAgain words (length dir) (andThen (whole newer) (judgeAgain (length words) (length dir) older newer os))
+      (keeps older newer os) (rest older newer os) (before (take (keeps older newer os) os) (rest older newer os))
+
+  unfoldable pub reread : (words dir : List ℕ) (n : ℕ) (older newer : List ℕ) → Again
+  reread words dir n older newer = rereadOf words dir older newer (olds (length older) (length words) n dir)
