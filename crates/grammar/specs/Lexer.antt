@@ -45,6 +45,10 @@ isByte b x = ltb b 256 && eqb x b
 unfoldable pub byteIf : {A : Type 0} → ℕ → Prog A → Prog A → Prog A
 byteIf b p q = look (λ x. elim (isByte b x) [ true ↦ eat p | false ↦ q ])
 
+-- the same, where the byte stays (`peek_ch`)
+unfoldable pub byteAtIf : {A : Type 0} → ℕ → Prog A → Prog A → Prog A
+byteAtIf b p q = look (λ x. elim (isByte b x) [ true ↦ p | false ↦ q ])
+
 unfoldable pub sameWord : List ℕ → List ℕ → Bool
 sameWord [] [] = true
 sameWord [] (y ∷ ys) = false
@@ -64,6 +68,10 @@ eatN (suc n) p = eat (eatN n p)
 -- `match_keyword`, behind white space: "one matches unless a letter, digit or `_` follows"
 unfoldable pub wordIf : {A : Type 0} → List ℕ → Prog A → Prog A → Prog A
 wordIf kw p q = lead (λ w. elim (sameWord w kw) [ true ↦ eatN (length kw) p | false ↦ q ])
+
+-- the same, where the word stays
+unfoldable pub wordAtIf : {A : Type 0} → List ℕ → Prog A → Prog A → Prog A
+wordAtIf kw p q = lead (λ w. elim (sameWord w kw) [ true ↦ p | false ↦ q ])
 
 -- a word's rank in a table, the table's length where it is not in it
 unfoldable pub rank : List ℕ → List (List ℕ) → ℕ

@@ -1,0 +1,209 @@
+-- Values and constants (parser.rs "Values"), as programs that give their words. 01: "Types and values".
+-- Assumes nothing.
+use mathlib.Core.Bool.{Bool, true, false}
+use mathlib.Core.List.{List, [], _∷_, _++_}
+use Prim.Native.Nat.{ℕ, zero, suc, _+_}
+use lib.ListN.{length}
+use Rattle.program.specs.Bytes.{bytes, byte}
+use Rattle.program.specs.Class.{isDigit}
+use Rattle.program.specs.Prog.{Prog, ret, fail, look, eat, here, lead, scan, _>>=_}
+use Rattle.records.specs.Words.{node}
+use Rattle.grammar.specs.Kinds.{kLocal, kGlobal, kIntConst, kFloatConst, kNull, kUndef, kPoison, kZeroInit, kCStr, kArrayConst, kStructConst, kGepExpr, kConvExpr, kBinExpr}
+use Rattle.grammar.specs.Lexer.{_>>_, turns, refuse, place, eatWs, byteIf, startsWith, eatN, wordIf, wordAtIf, rankIf, tokenIf, expectToken, expectKeyword, skipKeyword, cstringAt, skipParens}
+use Rattle.grammar.specs.Numbers.{Literal, int, float, parseNumeral, parseHexFloat, parseF0x}
+use Rattle.grammar.specs.Attributes.{skipArithFlags}
+use Rattle.grammar.specs.Types.{Listed, listed, countOf, wordsOf, TypeOut, whole, nameNode, parseType}
+
+-- `ConvOp`, in ast.rs order; a constant expression has the first six (`match_conv_op`)
+unfoldable pub convOps : List (List ℕ)
+convOps =
+    bytes "trunc" ∷ bytes "zext" ∷ bytes "sext" ∷ bytes "ptrtoint" ∷ bytes "inttoptr" ∷ bytes "bitcast" ∷ []
+
+-- `BinOp`, in ast.rs order (`match_bin_op`)
+unfoldable pub binOps : List (List ℕ)
+binOps =
+    bytes "add" ∷ bytes "sub" ∷ bytes "mul" ∷ bytes "udiv" ∷ bytes "sdiv" ∷ bytes "urem" ∷ bytes "srem" ∷
+    bytes "and" ∷ bytes "or" ∷ bytes "xor" ∷ bytes "shl" ∷ bytes "lshr" ∷ bytes "ashr" ∷ []
+
+-- the word at the cursor begins so (`match_chars`, no end test)
+unfoldable pub prefixIf : {A : Type 0} → List ℕ → Prog A → Prog A → Prog A
+prefixIf kw p q = lead (λ w. elim (startsWith kw w) [ true ↦ eatN (length kw) p | false ↦ q ])
+
+unfoldable pub literalWords : Literal → List ℕ
+literalWords (int hl) = node kIntConst 0 0 hl
+literalWords (float b) = node kFloatConst 0 0 (b ∷ [])
+
+unfoldable pub floatNode : ℕ → Prog (List ℕ)
+floatNode b = ret (node kFloatConst 0 0 (b ∷ []))
+
+unfoldable pub numeral : Bool → Prog (List ℕ)
+numeral neg = do
+  l ← parseNumeral neg
+  ret (literalWords l)
+
+unfoldable pub digitIf : {A : Type 0} → Prog A → Prog A → Prog A
+digitIf p q = look (λ x. elim (isDigit x) [ true ↦ p | false ↦ q ])
+
+-- a numeric constant, or g: `+inf`, `-inf`, `+qnan`, `0x..`, integers and decimals
+unfoldable pub numericOr : Prog (List ℕ) → Prog (List ℕ)
+numericOr g =
+    byteIf (byte "+")
+      (prefixIf (bytes "inf") (floatNode 0x7FF0_0000_0000_0000)
+      (prefixIf (bytes "qnan") (floatNode 0x7FF8_0000_0000_0000)
+      (numeral false)))
+    (byteIf (byte "-")
+      (prefixIf (bytes "inf") (floatNode 0xFFF0_0000_0000_0000)
+      (numeral true))
+    (digitIf
+      (prefixIf (bytes "0x") (parseHexFloat >>= floatNode)
+      (prefixIf (bytes "0X") (parseHexFloat >>= floatNode)
+      (numeral false)))
+    g))
+
+-- `c".."`: a `c` before anything else is no value
+unfoldable pub cstring : Prog (List ℕ)
+cstring = do
+  i ← place
+  eat (do
+    j ← place
+    byteIf 34 (do
+      n ← cstringAt j
+      ret (node kCStr 0 0 (n ∷ []))) (fail 6 i))
+
+-- the values that hold no other, or g
+unfoldable pub leafValues : Prog (List ℕ) → Prog (List ℕ)
+leafValues g =
+    byteIf (byte "%") (nameNode kLocal)
+    (byteIf (byte "@") (nameNode kGlobal)
+    (numericOr
+    (wordIf (bytes "true") (ret (node kIntConst 0 0 (0 ∷ 1 ∷ [])))
+    (wordIf (bytes "false") (ret (node kIntConst 0 0 (0 ∷ 0 ∷ [])))
+    (wordIf (bytes "null") (ret (node kNull 0 0 []))
+    (wordIf (bytes "undef") (ret (node kUndef 0 0 []))
+    (wordIf (bytes "poison") (ret (node kPoison 0 0 []))
+    (wordIf (bytes "zeroinitializer") (ret (node kZeroInit 0 0 []))
+    (wordAtIf (bytes "c") cstring
+    (prefixIf (bytes "f0x") (parseF0x >>= floatNode)
+    g))))))))))
+
+-- `parse_typed_val`: at a `(` behind the type the value refuses with 6
+unfoldable pub pairWith : Prog TypeOut → Prog (List ℕ) → Prog (List ℕ)
+pairWith type value = do
+  t ← whole 6 type
+  v ← value
+  ret (t ++ v)
+
+-- One typed value too many. "A typed value is two" children, so it is the value, or already the type, that question 19 refuses behind.
+unfoldable pub overValue : {A : Type 0} → Prog TypeOut → Prog (List ℕ) → Prog A
+overValue type value = pairWith type value >> refuse 19
+
+unfoldable pub overType : {A : Type 0} → Prog TypeOut → Prog A
+overType type = whole 19 type >> refuse 19
+
+-- typed values behind commas, through the closing byte; u more are allowed
+unfoldable pub pairs : ℕ → ℕ → Prog TypeOut → Prog (List ℕ) → ℕ → List ℕ → Prog Listed
+pairs zero end type value n acc = overValue type value
+pairs (suc u) end type value n acc = do
+  x ← pairWith type value
+  eatWs
+  byteIf (byte ",") (pairs u end type value (n + 2) (acc ++ x)) (byteIf end (ret (listed (n + 2) 0 (acc ++ x))) (refuse 3))
+
+-- `parse_array_const`, `parse_struct_const`, behind the opening byte; 32,767 pairs are 65,534 children
+unfoldable pub pairList : ℕ → Prog TypeOut → Prog (List ℕ) → Prog Listed
+pairList end type value = eatWs >> byteIf end (ret (listed 0 0 [])) (pairs 32767 end type value 0 [])
+
+unfoldable pub aggregate : ℕ → ℕ → Prog TypeOut → Prog (List ℕ) → Prog (List ℕ)
+aggregate kind end type value = do
+  l ← pairList end type value
+  ret (node kind 0 (countOf l) (wordsOf l))
+
+-- `<{ .. }>`: "Packed struct constants lose their packing." A `<` before anything else is no value.
+unfoldable pub packedConst : ℕ → Prog TypeOut → Prog (List ℕ) → Prog (List ℕ)
+packedConst i type value =
+    byteIf (byte "{")
+    (do
+      l ← pairList (byte "}") type value
+      expectToken (byte ">")
+      ret (node kStructConst 0 (countOf l) (wordsOf l)))
+    (fail 6 i)
+
+-- `parse_gep_flags`: 1 where `inbounds` is among them
+unfoldable pub parseGepFlags : ℕ → ℕ → Prog ℕ
+parseGepFlags zero inbounds = ret inbounds
+parseGepFlags (suc u) inbounds = do
+  eatWs
+  wordIf (bytes "inbounds") (parseGepFlags u 1)
+    (wordIf (bytes "nuw") (parseGepFlags u inbounds)
+    (wordIf (bytes "nusw") (parseGepFlags u inbounds)
+    (wordIf (bytes "inrange") (skipParens >> parseGepFlags u inbounds)
+    (ret inbounds))))
+
+-- the indices of a constant getelementptr, from before the comma through the `)`; base type, type and value of the base stand before them
+unfoldable pub gepIndices : ℕ → Prog TypeOut → Prog (List ℕ) → ℕ → List ℕ → Prog Listed
+gepIndices zero type value n acc =
+    tokenIf (byte ",") (skipKeyword (bytes "inrange") >> overType type) (byteIf (byte ")") (ret (listed n 0 acc)) (refuse 3))
+gepIndices (suc u) type value n acc =
+    tokenIf (byte ",")
+    (do
+      skipKeyword (bytes "inrange")
+      x ← pairWith type value
+      gepIndices u type value (n + 2) (acc ++ x))
+    (byteIf (byte ")") (ret (listed n 0 acc)) (refuse 3))
+
+-- `parse_ce_gep`, behind the word
+unfoldable pub parseCeGep : Prog TypeOut → Prog (List ℕ) → Prog (List ℕ)
+parseCeGep type value = do
+  inbounds ← parseGepFlags turns 0
+  expectToken (byte "(")
+  t ← whole 3 type
+  expectToken (byte ",")
+  x ← pairWith type value
+  l ← gepIndices 32766 type value 3 []
+  ret (node kGepExpr inbounds (countOf l) ((t ++ x) ++ wordsOf l))
+
+-- a conversion of a constant, behind the word (`parse_ce_conv_body`)
+unfoldable pub parseCeConv : ℕ → Prog TypeOut → Prog (List ℕ) → Prog (List ℕ)
+parseCeConv op type value = do
+  expectToken (byte "(")
+  x ← pairWith type value
+  expectKeyword (bytes "to")
+  t ← whole 3 type
+  expectToken (byte ")")
+  ret (node kConvExpr op 3 (x ++ t))
+
+-- an operation on two constants, behind the word
+unfoldable pub parseCeBin : ℕ → Prog TypeOut → Prog (List ℕ) → Prog (List ℕ)
+parseCeBin op type value = do
+  skipArithFlags
+  expectToken (byte "(")
+  x ← pairWith type value
+  expectToken (byte ",")
+  y ← pairWith type value
+  expectToken (byte ")")
+  ret (node kBinExpr op 4 (x ++ y))
+
+unfoldable pub constExprs : Prog TypeOut → Prog (List ℕ) → Prog (List ℕ)
+constExprs type value =
+    wordIf (bytes "getelementptr") (parseCeGep type value)
+    (rankIf convOps (λ op. parseCeConv op type value)
+    (rankIf binOps (λ op. parseCeBin op type value)
+    (refuse 6)))
+
+-- "A value holds typed values, each of which holds a value": what a value of one level more holds
+unfoldable pub valueWith : Prog TypeOut → Prog (List ℕ) → Prog (List ℕ)
+valueWith type value = do
+  eatWs
+  i ← place
+  leafValues
+    (byteIf (byte "[") (aggregate kArrayConst (byte "]") type value)
+    (byteIf (byte "{") (aggregate kStructConst (byte "}") type value)
+    (byteIf (byte "<") (packedConst i type value)
+    (constExprs type value))))
+
+-- `parse_value`, where d levels are left; types and values share the count
+unfoldable pub parseValue : ℕ → Prog (List ℕ)
+parseValue zero = eatWs >> refuse 16
+parseValue (suc d) = valueWith (parseType d) (parseValue d)
+
+unfoldable pub parseTypedVal : ℕ → Prog (List ℕ)
+parseTypedVal d = pairWith (parseType d) (parseValue d)
