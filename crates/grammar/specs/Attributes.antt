@@ -8,7 +8,7 @@ use Rattle.program.specs.Bytes.{bytes, byte}
 use Rattle.program.specs.Choice.{pick}
 use Rattle.program.specs.Class.{isDigit}
 use Rattle.program.specs.Prog.{Prog, ret, fail, look, eat, here, lead, scan, last, _>>=_}
-use Rattle.grammar.specs.Lexer.{_>>_, turns, refuse, eatWs, byteIf, byteAtIf, wordIf, rankIf, skipAll, skipParens}
+use Rattle.grammar.specs.Lexer.{turns, refuse, eatWs, byteIf, byteAtIf, wordIf, rankIf, skipAll, skipParens}
 use Rattle.grammar.specs.Numbers.{parseInt, most64}
 
 -- `FLAG_ATTRS`
@@ -70,11 +70,11 @@ groupStep q x = pick (isDigit x) (some 0) none
 unfoldable pub skipAttrsIn : ℕ → Prog (Unit {0})
 skipAttrsIn zero = ret tt
 skipAttrsIn (suc u) = do
-  eatWs
+  _ ← eatWs
   byteIf (byte "#") (scan groupStep 0 (λ w. skipAttrsIn u))
     (byteAtIf 34 (refuse 18)
-    (rankIf parenAttrs (λ r. skipParens >> skipAttrsIn u)
-    (wordIf (bytes "align") (eatWs >> (parseInt 0 most64 >> skipAttrsIn u))
+    (rankIf parenAttrs (λ r. skipParens >>= λ _. skipAttrsIn u)
+    (wordIf (bytes "align") (eatWs >>= λ _. (parseInt 0 most64 >>= λ _. skipAttrsIn u))
     (rankIf flagAttrs (λ r. skipAttrsIn u) (ret tt)))))
 
 unfoldable pub skipAttrs : Prog (Unit {0})
@@ -82,14 +82,14 @@ skipAttrs = skipAttrsIn turns
 
 -- `parse_linkage`: its rank, 10 when unwritten
 unfoldable pub parseLinkage : Prog ℕ
-parseLinkage = eatWs >> rankIf linkages ret (ret 10)
+parseLinkage = eatWs >>= λ _. rankIf linkages ret (ret 10)
 
 -- `skip_call_cconv`
 unfoldable pub skipCallCconv : Prog (Unit {0})
 skipCallCconv =
-    eatWs >>
+    eatWs >>= λ _.
     rankIf callingConventions (λ r. ret tt)
-    (wordIf (bytes "cc") (eatWs >> (parseInt 0 most64 >> ret tt)) (ret tt))
+    (wordIf (bytes "cc") (eatWs >>= λ _. (parseInt 0 most64 >>= λ _. ret tt)) (ret tt))
 
 unfoldable pub skipArithFlags : Prog (Unit {0})
 skipArithFlags = skipAll turns arithFlags

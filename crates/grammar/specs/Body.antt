@@ -10,7 +10,7 @@ use Rattle.program.specs.Choice.{pick}
 use Rattle.program.specs.Prog.{Prog, ret, fail, look, eat, here, lead, scan, last, _>>=_}
 use Rattle.records.specs.Words.{pack, node}
 use Rattle.grammar.specs.Kinds.{kHead, kBlock, kParam}
-use Rattle.grammar.specs.Lexer.{_>>_, turns, refuse, place, eatWs, byteIf, expectToken, dotsIf, Word, plain, quoted, sizeOf, spelled, readWord, nameWord, parseLocalName, parseGlobalName}
+use Rattle.grammar.specs.Lexer.{turns, refuse, place, eatWs, byteIf, expectToken, dotsIf, Word, plain, quoted, sizeOf, spelled, readWord, nameWord, parseLocalName, parseGlobalName}
 use Rattle.grammar.specs.Attributes.{parseLinkage, skipAttrs, skipCallCconv}
 use Rattle.grammar.specs.Types.{Listed, listed, countOf, dotsOf, wordsOf, depthLimit, childLimit, whole, parseType}
 use Rattle.grammar.specs.Instructions.{isWordThen, plainInst, valueInst, parseRet, parseBr, parseSwitch, parseUnreachable}
@@ -27,8 +27,8 @@ pub data Statement : Type 0 where
 unfoldable pub parseInst : Prog Statement
 parseInst = do
   dest ← nameWord
-  expectToken (byte "=")
-  eatWs
+  _ ← expectToken (byte "=")
+  _ ← eatWs
   w ← readWord
   x ← valueInst dest (spelled w)
   ret (instruction x)
@@ -77,7 +77,7 @@ overAt n over j = pick (eqb n childLimit) j over
 unfoldable pub parseBody : ℕ → ℕ → ℕ → ℕ → List ℕ → Prog (List ℕ)
 parseBody zero l n over acc = refuse 8
 parseBody (suc u) l n over acc = do
-  eatWs
+  _ ← eatWs
   last (byte "}") [] (do
     s ← parseStatement
     j ← place
@@ -94,29 +94,29 @@ parseBlock = parseBody turns 0 0 0 []
 -- a parameter: "A named parameter has detail 1", "zero when absent, as is an unnamed parameter's name"
 unfoldable pub paramOf : List ℕ → Prog (List ℕ)
 paramOf t = do
-  eatWs
+  _ ← eatWs
   byteIf (byte "%") (nameWord >>= λ n. ret (node kParam 1 1 (n ∷ t))) (ret (node kParam 0 1 (0 ∷ t)))
 
 unfoldable pub parseParam : ℕ → Prog (List ℕ)
 parseParam q = do
   t ← whole q (parseType depthLimit)
-  skipAttrs
+  _ ← skipAttrs
   paramOf t
 
 -- parameters, u more are allowed, through the `)`; the return type is a child before them
 unfoldable pub paramItems : ℕ → ℕ → List ℕ → Prog Listed
 paramItems zero n acc =
-    eatWs >> dotsIf 5 (expectToken (byte ")") >> ret (listed n 1 acc)) (parseParam 19 >> refuse 19)
+    eatWs >>= λ _. dotsIf 5 (expectToken (byte ")") >>= λ _. ret (listed n 1 acc)) (parseParam 19 >>= λ _. refuse 19)
 paramItems (suc u) n acc = do
-  eatWs
-  dotsIf 5 (expectToken (byte ")") >> ret (listed n 1 acc)) (do
+  _ ← eatWs
+  dotsIf 5 (expectToken (byte ")") >>= λ _. ret (listed n 1 acc)) (do
     x ← parseParam 3
-    eatWs
+    _ ← eatWs
     byteIf (byte ",") (paramItems u (n + 1) (acc ++ x)) (byteIf (byte ")") (ret (listed (n + 1) 0 (acc ++ x))) (refuse 3)))
 
 -- `parse_param_list`, behind the `(`
 unfoldable pub parseParamList : Prog Listed
-parseParamList = eatWs >> byteIf (byte ")") (ret (listed 1 0 [])) (paramItems 65534 1 [])
+parseParamList = eatWs >>= λ _. byteIf (byte ")") (ret (listed 1 0 [])) (paramItems 65534 1 [])
 
 -- "The head has the `Linkage` rank (10 when unwritten) plus 128 for varargs."
 unfoldable pub headNode : ℕ → ℕ → List ℕ → Listed → List ℕ
@@ -126,13 +126,13 @@ headNode linkage name t l = node kHead (linkage + 128 * dotsOf l) (countOf l) (n
 unfoldable pub parseHead : Prog (List ℕ)
 parseHead = do
   linkage ← parseLinkage
-  skipAttrs
-  skipCallCconv
-  skipAttrs
+  _ ← skipAttrs
+  _ ← skipCallCconv
+  _ ← skipAttrs
   t ← whole 3 (parseType depthLimit)
   name ← parseGlobalName
-  expectToken (byte "(")
+  _ ← expectToken (byte "(")
   l ← parseParamList
-  skipAttrs
-  eatWs
+  _ ← skipAttrs
+  _ ← eatWs
   last (byte "{") (headNode linkage name t l) (refuse 3)

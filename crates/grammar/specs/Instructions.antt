@@ -11,7 +11,7 @@ use Rattle.program.specs.Bytes.{bytes, byte}
 use Rattle.program.specs.Prog.{Prog, ret, fail, look, eat, here, lead, scan, _>>=_}
 use Rattle.records.specs.Words.{node}
 use Rattle.grammar.specs.Kinds.{kFunc, kIntConst, kBin, kFBin, kFNeg, kConv, kICmp, kFCmp, kSelect, kLoad, kStore, kAlloca, kGep, kPhi, kCall, kFreeze, kAtomicLoad, kAtomicStore, kCmpxchg, kExtractValue, kFence, kRet, kBr, kSwitch, kUnreachable, kName}
-use Rattle.grammar.specs.Lexer.{_>>_, turns, refuse, eatWs, byteIf, wordIf, rankIf, tokenIf, expectToken, expectKeyword, skipKeyword, skipOne, skipAll, dotsIf, sameWord, rank, parseLocalName, skipParens, skipMetadataRef}
+use Rattle.grammar.specs.Lexer.{turns, refuse, eatWs, byteIf, wordIf, rankIf, tokenIf, expectToken, expectKeyword, skipKeyword, skipOne, skipAll, dotsIf, sameWord, rank, parseLocalName, skipParens, skipMetadataRef}
 use Rattle.grammar.specs.Numbers.{parseInt, most64}
 use Rattle.grammar.specs.Attributes.{skipAttrs, skipCallCconv, skipArithFlags, skipFastMathFlags, convFlags}
 use Rattle.grammar.specs.Types.{Listed, listed, countOf, dotsOf, wordsOf, TypeOut, plain, opened, depthLimit, whole, parseTypeList, parseType}
@@ -30,7 +30,7 @@ labelNode n = node kName 0 0 (n ∷ [])
 
 -- a typed value whose type is dropped
 unfoldable pub parseOperand : Prog (List ℕ)
-parseOperand = type 6 >> value
+parseOperand = type 6 >>= λ _. value
 
 -- `parse_trailing`: `, align N` and metadata, as many as stand there; the last number, as its word
 unfoldable pub parseTrailingIn : ℕ → List ℕ → Prog (List ℕ)
@@ -38,13 +38,13 @@ parseTrailingIn zero align = ret align
 parseTrailingIn (suc u) align =
     tokenIf (byte ",")
     (do
-      eatWs
+      _ ← eatWs
       wordIf (bytes "align")
         (do
-          eatWs
+          _ ← eatWs
           n ← parseInt 0 most64
           parseTrailingIn u (n ∷ []))
-        (byteIf (byte "!") (skipMetadataRef >> parseTrailingIn u align) (refuse 11)))
+        (byteIf (byte "!") (skipMetadataRef >>= λ _. parseTrailingIn u align) (refuse 11)))
     (ret align)
 
 unfoldable pub parseTrailing : Prog (List ℕ)
@@ -57,8 +57,8 @@ orderings =
 
 unfoldable pub skipAtomicOrdering : Prog (Unit {0})
 skipAtomicOrdering = do
-  eatWs
-  wordIf (bytes "syncscope") skipParens (ret tt)
+  _ ← eatWs
+  _ ← wordIf (bytes "syncscope") skipParens (ret tt)
   skipOne orderings
 
 -- T V, V
@@ -66,39 +66,39 @@ unfoldable pub twoOperands : Prog (List ℕ)
 twoOperands = do
   t ← type 6
   a ← value
-  expectToken (byte ",")
+  _ ← expectToken (byte ",")
   b ← value
   ret ((t ++ a) ++ b)
 
 unfoldable pub parseBin : ℕ → ℕ → Prog (List ℕ)
 parseBin op dest = do
-  skipArithFlags
+  _ ← skipArithFlags
   x ← twoOperands
-  parseTrailing
+  _ ← parseTrailing
   ret (node kBin op 3 (dest ∷ x))
 
 unfoldable pub parseFbin : ℕ → ℕ → Prog (List ℕ)
 parseFbin op dest = do
-  skipFastMathFlags
+  _ ← skipFastMathFlags
   x ← twoOperands
-  parseTrailing
+  _ ← parseTrailing
   ret (node kFBin op 3 (dest ∷ x))
 
 unfoldable pub parseFneg : ℕ → Prog (List ℕ)
 parseFneg dest = do
-  skipFastMathFlags
+  _ ← skipFastMathFlags
   x ← parseTypedVal depthLimit
-  parseTrailing
+  _ ← parseTrailing
   ret (node kFNeg 0 2 (dest ∷ x))
 
 -- an instruction that ends in a type: a `(` behind it begins the next statement, which refuses with 8
 unfoldable pub parseConv : ℕ → ℕ → Prog (List ℕ)
 parseConv op dest = do
-  skipAll turns convFlags
+  _ ← skipAll turns convFlags
   x ← parseTypedVal depthLimit
-  expectKeyword (bytes "to")
+  _ ← expectKeyword (bytes "to")
   t ← type 8
-  parseTrailing
+  _ ← parseTrailing
   ret (node kConv op 3 (dest ∷ (x ++ t)))
 
 -- `ICmpPred`, in ast.rs order
@@ -115,56 +115,56 @@ fcmpPreds =
 
 -- `parse_icmp_pred`, `parse_fcmp_pred`: question 10
 unfoldable pub predicate : List (List ℕ) → Prog ℕ
-predicate table = eatWs >> rankIf table ret (refuse 10)
+predicate table = eatWs >>= λ _. rankIf table ret (refuse 10)
 
 unfoldable pub parseIcmp : ℕ → Prog (List ℕ)
 parseIcmp dest = do
-  skipKeyword (bytes "samesign")
+  _ ← skipKeyword (bytes "samesign")
   p ← predicate icmpPreds
   x ← twoOperands
-  parseTrailing
+  _ ← parseTrailing
   ret (node kICmp p 3 (dest ∷ x))
 
 unfoldable pub parseFcmp : ℕ → Prog (List ℕ)
 parseFcmp dest = do
-  skipFastMathFlags
+  _ ← skipFastMathFlags
   p ← predicate fcmpPreds
   x ← twoOperands
-  parseTrailing
+  _ ← parseTrailing
   ret (node kFCmp p 3 (dest ∷ x))
 
 -- condition, type, values: the types of the condition and of the second value are dropped
 unfoldable pub parseSelect : ℕ → Prog (List ℕ)
 parseSelect dest = do
   c ← parseOperand
-  expectToken (byte ",")
+  _ ← expectToken (byte ",")
   x ← parseTypedVal depthLimit
-  expectToken (byte ",")
+  _ ← expectToken (byte ",")
   y ← parseOperand
-  parseTrailing
+  _ ← parseTrailing
   ret (node kSelect 0 4 (dest ∷ ((c ++ x) ++ y)))
 
 -- T, T V
 unfoldable pub loadOperands : Prog (List ℕ)
 loadOperands = do
   t ← type 3
-  expectToken (byte ",")
+  _ ← expectToken (byte ",")
   p ← parseOperand
   ret (t ++ p)
 
 -- the alignment stands before the operands, and takes no word when absent; detail bit 0 says that it is there
 unfoldable pub parseLoad : ℕ → Prog (List ℕ)
 parseLoad dest = do
-  eatWs
+  _ ← eatWs
   wordIf (bytes "atomic")
     (do
-      skipKeyword (bytes "volatile")
+      _ ← skipKeyword (bytes "volatile")
       x ← loadOperands
-      skipAtomicOrdering
-      parseTrailing
+      _ ← skipAtomicOrdering
+      _ ← parseTrailing
       ret (node kAtomicLoad 0 2 (dest ∷ x)))
     (do
-      skipKeyword (bytes "volatile")
+      _ ← skipKeyword (bytes "volatile")
       x ← loadOperands
       align ← parseTrailing
       ret (node kLoad (length align) 2 (dest ∷ (align ++ x))))
@@ -173,22 +173,22 @@ parseLoad dest = do
 unfoldable pub storeOperands : Prog (List ℕ)
 storeOperands = do
   x ← parseTypedVal depthLimit
-  expectToken (byte ",")
+  _ ← expectToken (byte ",")
   p ← parseOperand
   ret (x ++ p)
 
 unfoldable pub parseStore : Prog (List ℕ)
 parseStore = do
-  eatWs
+  _ ← eatWs
   wordIf (bytes "atomic")
     (do
-      skipKeyword (bytes "volatile")
+      _ ← skipKeyword (bytes "volatile")
       x ← storeOperands
-      skipAtomicOrdering
-      parseTrailing
+      _ ← skipAtomicOrdering
+      _ ← parseTrailing
       ret (node kAtomicStore 0 3 (0 ∷ x)))
     (do
-      skipKeyword (bytes "volatile")
+      _ ← skipKeyword (bytes "volatile")
       x ← storeOperands
       align ← parseTrailing
       ret (node kStore (length align) 3 (0 ∷ (align ++ x))))
@@ -196,33 +196,33 @@ parseStore = do
 -- read as pointer, type and comparand, new value; laid out as type, pointer, comparand, new value
 unfoldable pub parseCmpxchg : ℕ → Prog (List ℕ)
 parseCmpxchg dest = do
-  skipKeyword (bytes "weak")
-  skipKeyword (bytes "volatile")
+  _ ← skipKeyword (bytes "weak")
+  _ ← skipKeyword (bytes "volatile")
   p ← parseOperand
-  expectToken (byte ",")
+  _ ← expectToken (byte ",")
   t ← type 6
   c ← value
-  expectToken (byte ",")
+  _ ← expectToken (byte ",")
   n ← parseOperand
-  skipAtomicOrdering
-  skipAtomicOrdering
-  parseTrailing
+  _ ← skipAtomicOrdering
+  _ ← skipAtomicOrdering
+  _ ← parseTrailing
   ret (node kCmpxchg 0 4 (dest ∷ (((t ++ p) ++ c) ++ n)))
 
 -- Question 15: "index below 2^32"
 unfoldable pub parseExtractvalue : ℕ → Prog (List ℕ)
 parseExtractvalue dest = do
   a ← parseOperand
-  expectToken (byte ",")
-  eatWs
+  _ ← expectToken (byte ",")
+  _ ← eatWs
   n ← parseInt 0 4294967295
-  parseTrailing
+  _ ← parseTrailing
   ret (node kExtractValue 0 1 (dest ∷ (n ∷ a)))
 
 unfoldable pub parseFence : Prog (List ℕ)
 parseFence = do
-  skipAtomicOrdering
-  parseTrailing
+  _ ← skipAtomicOrdering
+  _ ← parseTrailing
   ret (node kFence 0 0 (0 ∷ []))
 
 -- Behind an alloca's type: "of several counts and aligns the last counts". The count's words, the alignment's word.
@@ -235,13 +235,13 @@ allocaRest zero dest t count align = ret (allocaNode dest t count align)
 allocaRest (suc u) dest t count align =
     tokenIf (byte ",")
     (do
-      eatWs
+      _ ← eatWs
       wordIf (bytes "align")
         (do
-          eatWs
+          _ ← eatWs
           n ← parseInt 0 most64
           allocaRest u dest t count (n ∷ []))
-        (byteIf (byte "!") (skipMetadataRef >> allocaRest u dest t count align)
+        (byteIf (byte "!") (skipMetadataRef >>= λ _. allocaRest u dest t count align)
         (do
           x ← parseTypedVal depthLimit
           allocaRest u dest t x align)))
@@ -249,7 +249,7 @@ allocaRest (suc u) dest t count align =
 
 unfoldable pub parseAlloca : ℕ → Prog (List ℕ)
 parseAlloca dest = do
-  skipKeyword (bytes "inalloca")
+  _ ← skipKeyword (bytes "inalloca")
   t ← type 8
   allocaRest turns dest t [] []
 
@@ -259,8 +259,8 @@ gepInstIndices zero k acc = ret (listed k 0 acc)
 gepInstIndices (suc u) k acc =
     tokenIf (byte ",")
     (do
-      eatWs
-      byteIf (byte "!") (skipMetadataRef >> gepInstIndices u k acc)
+      _ ← eatWs
+      byteIf (byte "!") (skipMetadataRef >>= λ _. gepInstIndices u k acc)
         (elim (ltb k 32766)
         [ true ↦ parseTypedVal depthLimit >>= λ x. gepInstIndices u (k + 1) (acc ++ x)
         | false ↦ overValue (parseType depthLimit) value ]))
@@ -270,7 +270,7 @@ unfoldable pub parseGepInst : ℕ → Prog (List ℕ)
 parseGepInst dest = do
   inbounds ← parseGepFlags turns 0
   t ← type 3
-  expectToken (byte ",")
+  _ ← expectToken (byte ",")
   p ← parseOperand
   l ← gepInstIndices turns 0 []
   ret (node kGep inbounds (2 + countOf l * 2) (dest ∷ ((t ++ p) ++ wordsOf l)))
@@ -278,15 +278,15 @@ parseGepInst dest = do
 -- a phi's pairs of value and label, k more are allowed
 unfoldable pub phiItems : ℕ → ℕ → List ℕ → Prog Listed
 phiItems zero n acc = do
-  expectToken (byte "[")
-  value
+  _ ← expectToken (byte "[")
+  _ ← value
   refuse 19
 phiItems (suc k) n acc = do
-  expectToken (byte "[")
+  _ ← expectToken (byte "[")
   v ← value
-  expectToken (byte ",")
+  _ ← expectToken (byte ",")
   l ← parseLocalName
-  expectToken (byte "]")
+  _ ← expectToken (byte "]")
   tokenIf (byte ",") (phiItems k (n + 2) ((acc ++ v) ++ labelNode l)) (ret (listed (n + 2) 0 ((acc ++ v) ++ labelNode l)))
 
 unfoldable pub parsePhi : ℕ → Prog (List ℕ)
@@ -298,7 +298,7 @@ parsePhi dest = do
 unfoldable pub parseFreeze : ℕ → Prog (List ℕ)
 parseFreeze dest = do
   x ← parseTypedVal depthLimit
-  parseTrailing
+  _ ← parseTrailing
   ret (node kFreeze 0 2 (dest ∷ x))
 
 -- A call's arguments (`parse_arg_list`), through the `)`: n children so far, u more arguments are allowed. `odd` children stand before them, then
@@ -306,25 +306,25 @@ parseFreeze dest = do
 unfoldable pub overArg : Bool → Prog Listed
 overArg true = overType (parseType depthLimit)
 overArg false = do
-  type 6
-  skipAttrs
-  value
+  _ ← type 6
+  _ ← skipAttrs
+  _ ← value
   refuse 19
 
 unfoldable pub argItems : ℕ → Bool → ℕ → List ℕ → Prog Listed
-argItems zero odd n acc = eatWs >> dotsIf 5 (expectToken (byte ")") >> ret (listed n 0 acc)) (overArg odd)
+argItems zero odd n acc = eatWs >>= λ _. dotsIf 5 (expectToken (byte ")") >>= λ _. ret (listed n 0 acc)) (overArg odd)
 argItems (suc u) odd n acc = do
-  eatWs
-  dotsIf 5 (expectToken (byte ")") >> ret (listed n 0 acc)) (do
+  _ ← eatWs
+  dotsIf 5 (expectToken (byte ")") >>= λ _. ret (listed n 0 acc)) (do
     t ← type 6
-    skipAttrs
+    _ ← skipAttrs
     v ← value
-    eatWs
+    _ ← eatWs
     byteIf (byte ",") (argItems u odd (n + 2) ((acc ++ t) ++ v))
       (byteIf (byte ")") (ret (listed (n + 2) 0 ((acc ++ t) ++ v))) (refuse 3)))
 
 unfoldable pub parseArgList : Bool → ℕ → Prog Listed
-parseArgList odd n = eatWs >> byteIf (byte ")") (ret (listed n 0 [])) (argItems 32766 odd n [])
+parseArgList odd n = eatWs >>= λ _. byteIf (byte ")") (ret (listed n 0 [])) (argItems 32766 odd n [])
 
 -- `Type::Func`, which survives in calls alone: the return type again, then the list
 unfoldable pub funcNode : List ℕ → Listed → List ℕ
@@ -334,10 +334,10 @@ funcNode t l = node kFunc (dotsOf l) (countOf l + 1) (t ++ wordsOf l)
 unfoldable pub callRest : ℕ → ℕ → Bool → ℕ → List ℕ → Prog (List ℕ)
 callRest dest d odd n types = do
   f ← value
-  expectToken (byte "(")
+  _ ← expectToken (byte "(")
   l ← parseArgList odd n
-  skipAttrs
-  parseTrailing
+  _ ← skipAttrs
+  _ ← parseTrailing
   ret (node kCall d (countOf l) (dest ∷ ((types ++ f) ++ wordsOf l)))
 
 -- Behind the return type. A list that the type did not take as its own is the function type's.
@@ -352,45 +352,45 @@ callOf dest (opened t l j) = callRest dest 1 true 3 (t ++ funcNode t l)
 
 unfoldable pub parseCall : ℕ → Prog (List ℕ)
 parseCall dest = do
-  skipCallCconv
-  skipAttrs
+  _ ← skipCallCconv
+  _ ← skipAttrs
   t ← parseType depthLimit
   callOf dest t
 
 -- `tail`, `musttail`, `notail`
 unfoldable pub parseTailCall : ℕ → Prog (List ℕ)
-parseTailCall dest = expectKeyword (bytes "call") >> parseCall dest
+parseTailCall dest = expectKeyword (bytes "call") >>= λ _. parseCall dest
 
 -- Terminators.
 unfoldable pub parseRet : Prog (List ℕ)
 parseRet = do
-  eatWs
+  _ ← eatWs
   wordIf (bytes "void")
-    (parseTrailing >> ret (node kRet 0 0 []))
+    (parseTrailing >>= λ _. ret (node kRet 0 0 []))
     (do
       x ← parseTypedVal depthLimit
-      parseTrailing
+      _ ← parseTrailing
       ret (node kRet 1 2 x))
 
 unfoldable pub target : Prog ℕ
 target = do
-  expectToken (byte ",")
-  expectKeyword (bytes "label")
+  _ ← expectToken (byte ",")
+  _ ← expectKeyword (bytes "label")
   parseLocalName
 
 unfoldable pub parseBr : Prog (List ℕ)
 parseBr = do
-  eatWs
+  _ ← eatWs
   wordIf (bytes "label")
     (do
       l ← parseLocalName
-      parseTrailing
+      _ ← parseTrailing
       ret (node kBr 0 1 (labelNode l)))
     (do
       c ← parseOperand
       a ← target
       b ← target
-      parseTrailing
+      _ ← parseTrailing
       ret (node kBr 3 3 ((c ++ labelNode a) ++ labelNode b)))
 
 -- a value's two words where it is an integer (question 12, behind the value)
@@ -406,8 +406,8 @@ switchCases zero n ints labels =
     tokenIf (byte "]") (ret (cases n ints labels))
     (do
       v ← parseOperand
-      caseWords v
-      target
+      _ ← caseWords v
+      _ ← target
       refuse 19)
 switchCases (suc k) n ints labels =
     tokenIf (byte "]") (ret (cases n ints labels))
@@ -424,13 +424,13 @@ unfoldable pub parseSwitch : Prog (List ℕ)
 parseSwitch = do
   x ← parseTypedVal depthLimit
   def ← target
-  expectToken (byte "[")
+  _ ← expectToken (byte "[")
   c ← switchCases 65532 0 [] []
-  parseTrailing
+  _ ← parseTrailing
   ret (switchNode x def c)
 
 unfoldable pub parseUnreachable : Prog (List ℕ)
-parseUnreachable = parseTrailing >> ret (node kUnreachable 0 0 [])
+parseUnreachable = parseTrailing >>= λ _. ret (node kUnreachable 0 0 [])
 
 -- Opcodes.
 -- `FBinOp`, in ast.rs order

@@ -12,10 +12,6 @@ use Rattle.program.specs.Class.{classOf, isSpace, isDigit, isHex, isWord, isNam
 use Rattle.program.specs.Prog.{Prog, ret, fail, look, eat, here, lead, scan, last, _>>=_}
 use Rattle.records.specs.Words.{pack}
 
-infixl 20 _>>_
-abbrev pub _>>_ : {A B : Type 0} → Prog A → Prog B → Prog B
-_>>_ p q = p >>= λ u. q
-
 -- Turns of a loop, more than a text has bytes: each turn takes a byte, so none runs out (question 1).
 abbrev pub turns : ℕ
 turns = 16777217
@@ -84,28 +80,28 @@ rankIf table p q = lead (λ w. elim (ltb (rank w table) (length table)) [ true �
 
 -- `match_token`
 unfoldable pub tokenIf : {A : Type 0} → ℕ → Prog A → Prog A → Prog A
-tokenIf b p q = eatWs >> byteIf b p q
+tokenIf b p q = eatWs >>= λ _. byteIf b p q
 
 -- `expect_token`
 unfoldable pub expectToken : ℕ → Prog (Unit {0})
-expectToken b = eatWs >> byteIf b (ret tt) (refuse 3)
+expectToken b = eatWs >>= λ _. byteIf b (ret tt) (refuse 3)
 
 -- `expect_keyword`
 unfoldable pub expectKeyword : List ℕ → Prog (Unit {0})
-expectKeyword kw = eatWs >> wordIf kw (ret tt) (refuse 3)
+expectKeyword kw = eatWs >>= λ _. wordIf kw (ret tt) (refuse 3)
 
 -- a keyword that may stand there
 unfoldable pub skipKeyword : List ℕ → Prog (Unit {0})
-skipKeyword kw = eatWs >> wordIf kw (ret tt) (ret tt)
+skipKeyword kw = eatWs >>= λ _. wordIf kw (ret tt) (ret tt)
 
 -- one keyword of a table, if any stands there
 unfoldable pub skipOne : List (List ℕ) → Prog (Unit {0})
-skipOne table = eatWs >> rankIf table (λ r. ret tt) (ret tt)
+skipOne table = eatWs >>= λ _. rankIf table (λ r. ret tt) (ret tt)
 
 -- keywords of a table, as many as stand there
 unfoldable pub skipAll : ℕ → List (List ℕ) → Prog (Unit {0})
 skipAll zero table = ret tt
-skipAll (suc u) table = eatWs >> rankIf table (λ r. skipAll u table) (ret tt)
+skipAll (suc u) table = eatWs >>= λ _. rankIf table (λ r. skipAll u table) (ret tt)
 
 -- `match_token("...")`; where it begins and is not whole, what follows refuses with q at its first byte
 unfoldable pub dotsIf : {A : Type 0} → ℕ → Prog A → Prog A → Prog A
@@ -178,11 +174,11 @@ nameWord = do
 
 -- `parse_local_name`
 unfoldable pub parseLocalName : Prog ℕ
-parseLocalName = eatWs >> byteIf (byte "%") nameWord (refuse 3)
+parseLocalName = eatWs >>= λ _. byteIf (byte "%") nameWord (refuse 3)
 
 -- `parse_global_name`
 unfoldable pub parseGlobalName : Prog ℕ
-parseGlobalName = eatWs >> byteIf (byte "@") nameWord (refuse 3)
+parseGlobalName = eatWs >>= λ _. byteIf (byte "@") nameWord (refuse 3)
 
 -- up to the byte that closes what `open` opens; q more are open
 unfoldable pub balanceStep : ℕ → ℕ → ℕ → ℕ → Option ℕ
@@ -195,14 +191,14 @@ balanced open′ close = scan (balanceStep open′ close) 0 (λ w. byteIf close 
 
 -- `skip_parens`
 unfoldable pub skipParens : Prog (Unit {0})
-skipParens = eatWs >> byteIf (byte "(") (balanced (byte "(") (byte ")")) (refuse 3)
+skipParens = eatWs >>= λ _. byteIf (byte "(") (balanced (byte "(") (byte ")")) (refuse 3)
 
 -- `skip_metadata_ref`, behind its first `!`
 unfoldable pub skipMetadataRef : Prog (Unit {0})
 skipMetadataRef = do
-  readWord
-  eatWs
-  byteIf (byte "!") (byteIf (byte "{") (balanced (byte "{") (byte "}")) (readWord >> ret tt)) (ret tt)
+  _ ← readWord
+  _ ← eatWs
+  byteIf (byte "!") (byteIf (byte "{") (balanced (byte "{") (byte "}")) (readWord >>= λ _. ret tt)) (ret tt)
 
 -- Between the quotes of `c".."`: state 1 is behind `\`, 2 behind its first digit. It stops at the quote, and in state 2 at what is no digit.
 unfoldable pub cstringStep : ℕ → ℕ → Option ℕ

@@ -7,3 +7,4 @@ pub mod Values
 pub mod Instructions
 pub mod Body
 pub mod Again
+pub mod Readings

@@ -10,7 +10,7 @@ use Rattle.program.specs.Bytes.{bytes, byte}
 use Rattle.program.specs.Choice.{pick, test}
 use Rattle.program.specs.Class.{classOf, isDigit, isHex}
 use Rattle.program.specs.Prog.{Prog, ret, fail, look, eat, here, lead, scan, last, _>>=_}
-use Rattle.grammar.specs.Lexer.{_>>_, refuse, byteIf}
+use Rattle.grammar.specs.Lexer.{refuse, byteIf}
 
 -- "A number begins with a digit; later underscores are passed over."
 unfoldable pub digitStep : ℕ → ℕ → Option ℕ

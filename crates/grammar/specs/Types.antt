@@ -6,7 +6,7 @@ use Rattle.program.specs.Bytes.{bytes, byte}
 use Rattle.program.specs.Prog.{Prog, ret, fail, _>>=_}
 use Rattle.records.specs.Words.{node}
 use Rattle.grammar.specs.Kinds.{kVoid, kInt, kFloat, kDouble, kPtr, kArray, kNamed, kStruct, kLabel, kMetadata}
-use Rattle.grammar.specs.Lexer.{_>>_, turns, refuse, place, eatWs, byteIf, wordIf, tokenIf, expectToken, expectKeyword, dotsIf, nameWord, skipParens}
+use Rattle.grammar.specs.Lexer.{turns, refuse, place, eatWs, byteIf, wordIf, tokenIf, expectToken, expectKeyword, dotsIf, nameWord, skipParens}
 use Rattle.grammar.specs.Numbers.{parseInt, most64}
 use Rattle.grammar.specs.Attributes.{skipAttrs}
 
@@ -47,30 +47,30 @@ whole q f = f >>= wholeOf q
 
 -- Types behind commas, through the closing byte (`parse_struct_fields`): n so far, u more are allowed. Question 19 is asked behind the next.
 unfoldable pub items : ℕ → ℕ → Prog TypeOut → ℕ → List ℕ → Prog Listed
-items zero end elem n acc = whole 19 elem >> refuse 19
+items zero end elem n acc = whole 19 elem >>= λ _. refuse 19
 items (suc u) end elem n acc = do
   t ← whole 3 elem
-  eatWs
+  _ ← eatWs
   byteIf (byte ",") (items u end elem (n + 1) (acc ++ t)) (byteIf end (ret (listed (n + 1) 0 (acc ++ t))) (refuse 3))
 
 unfoldable pub structFields : Prog TypeOut → Prog Listed
-structFields elem = eatWs >> byteIf (byte "}") (ret (listed 0 0 [])) (items childLimit (byte "}") elem 0 [])
+structFields elem = eatWs >>= λ _. byteIf (byte "}") (ret (listed 0 0 [])) (items childLimit (byte "}") elem 0 [])
 
 -- Types with attributes behind each, `...` in the last place, through the closing parenthesis (`parse_type_list`). The return type counts with
 -- them: "a dropped type list counts with its return type". `bad` is what a type refuses with where none begins.
 unfoldable pub typeItems : ℕ → ℕ → Prog TypeOut → ℕ → List ℕ → Prog Listed
 typeItems zero bad elem n acc =
-    eatWs >> dotsIf bad (expectToken (byte ")") >> ret (listed n 1 acc)) (whole 19 elem >> refuse 19)
+    eatWs >>= λ _. dotsIf bad (expectToken (byte ")") >>= λ _. ret (listed n 1 acc)) (whole 19 elem >>= λ _. refuse 19)
 typeItems (suc u) bad elem n acc = do
-  eatWs
-  dotsIf bad (expectToken (byte ")") >> ret (listed n 1 acc)) (do
+  _ ← eatWs
+  dotsIf bad (expectToken (byte ")") >>= λ _. ret (listed n 1 acc)) (do
     t ← whole 3 elem
-    skipAttrs
-    eatWs
+    _ ← skipAttrs
+    _ ← eatWs
     byteIf (byte ",") (typeItems u bad elem (n + 1) (acc ++ t)) (byteIf (byte ")") (ret (listed (n + 1) 0 (acc ++ t))) (refuse 3)))
 
 unfoldable pub parseTypeList : ℕ → Prog TypeOut → Prog Listed
-parseTypeList bad elem = eatWs >> byteIf (byte ")") (ret (listed 0 0 [])) (typeItems 65534 bad elem 0 [])
+parseTypeList bad elem = eatWs >>= λ _. byteIf (byte ")") (ret (listed 0 0 [])) (typeItems 65534 bad elem 0 [])
 
 abbrev pub ptrWords : List ℕ
 ptrWords = 360287970189639681 ∷ []
@@ -93,8 +93,8 @@ optAddrspace = wordIf (bytes "addrspace") skipParens (ret tt)
 -- `ptr`, and an `addrspace(..)` directly after it, white space allowed
 unfoldable pub ptrType : Prog (List ℕ)
 ptrType = do
-  eatWs
-  optAddrspace
+  _ ← eatWs
+  _ ← optAddrspace
   ret (node kPtr 0 0 [])
 
 -- the types that hold no other, or g
@@ -113,11 +113,11 @@ leafTypes g =
 -- `[N x T]` and `<N x T>`, behind the opening byte
 unfoldable pub arrayType : ℕ → ℕ → Prog TypeOut → Prog (List ℕ)
 arrayType packed end elem = do
-  eatWs
+  _ ← eatWs
   n ← parseInt 0 most64
-  expectKeyword (bytes "x")
+  _ ← expectKeyword (bytes "x")
   t ← whole 3 elem
-  expectToken end
+  _ ← expectToken end
   ret (node kArray packed 1 (n ∷ t))
 
 unfoldable pub structType : Prog TypeOut → Prog (List ℕ)
@@ -131,7 +131,7 @@ packedType elem =
     byteIf (byte "{")
     (do
       l ← structFields elem
-      expectToken (byte ">")
+      _ ← expectToken (byte ">")
       ret (node kStruct 1 (countOf l) (wordsOf l)))
     (arrayType 1 (byte ">") elem)
 
@@ -149,20 +149,20 @@ parseBaseType elem =
 unfoldable pub suffixes : ℕ → ℕ → Prog TypeOut → List ℕ → Prog TypeOut
 suffixes zero bad elem t = ret (plain t)
 suffixes (suc u) bad elem t = do
-  eatWs
+  _ ← eatWs
   j ← place
   byteIf (byte "(")
     (do
       l ← parseTypeList bad elem
-      eatWs
+      _ ← eatWs
       byteIf (byte "*") (suffixes u bad elem ptrWords) (ret (opened t l j)))
     (do
-      optAddrspace
+      _ ← optAddrspace
       byteIf (byte "*") (suffixes u bad elem ptrWords) (ret (plain t)))
 
 unfoldable pub typeWith : ℕ → Prog TypeOut → Prog TypeOut
 typeWith bad elem = do
-  eatWs
+  _ ← eatWs
   t ← parseBaseType elem
   suffixes turns bad elem t
 
@@ -173,5 +173,5 @@ noType (suc d) = 5
 
 -- `parse_type`, where d levels are left: "16. Is the depth at most 64? (asked before 5 and 6, at the first character)"
 unfoldable pub parseType : ℕ → Prog TypeOut
-parseType zero = eatWs >> refuse 16
+parseType zero = eatWs >>= λ _. refuse 16
 parseType (suc d) = typeWith (noType d) (parseType d)

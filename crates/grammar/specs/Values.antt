@@ -9,7 +9,7 @@ use Rattle.program.specs.Class.{isDigit}
 use Rattle.program.specs.Prog.{Prog, ret, fail, look, eat, here, lead, scan, _>>=_}
 use Rattle.records.specs.Words.{node}
 use Rattle.grammar.specs.Kinds.{kLocal, kGlobal, kIntConst, kFloatConst, kNull, kUndef, kPoison, kZeroInit, kCStr, kArrayConst, kStructConst, kGepExpr, kConvExpr, kBinExpr}
-use Rattle.grammar.specs.Lexer.{_>>_, turns, refuse, place, eatWs, byteIf, startsWith, eatN, wordIf, wordAtIf, rankIf, tokenIf, expectToken, expectKeyword, skipKeyword, cstringAt, skipParens}
+use Rattle.grammar.specs.Lexer.{turns, refuse, place, eatWs, byteIf, startsWith, eatN, wordIf, wordAtIf, rankIf, tokenIf, expectToken, expectKeyword, skipKeyword, cstringAt, skipParens}
 use Rattle.grammar.specs.Numbers.{Literal, int, float, parseNumeral, parseHexFloat, parseF0x}
 use Rattle.grammar.specs.Attributes.{skipArithFlags}
 use Rattle.grammar.specs.Types.{Listed, listed, countOf, wordsOf, TypeOut, whole, nameNode, parseType}
@@ -95,22 +95,22 @@ pairWith type value = do
 
 -- One typed value too many. "A typed value is two" children, so it is the value, or already the type, that question 19 refuses behind.
 unfoldable pub overValue : {A : Type 0} → Prog TypeOut → Prog (List ℕ) → Prog A
-overValue type value = pairWith type value >> refuse 19
+overValue type value = pairWith type value >>= λ _. refuse 19
 
 unfoldable pub overType : {A : Type 0} → Prog TypeOut → Prog A
-overType type = whole 19 type >> refuse 19
+overType type = whole 19 type >>= λ _. refuse 19
 
 -- typed values behind commas, through the closing byte; u more are allowed
 unfoldable pub pairs : ℕ → ℕ → Prog TypeOut → Prog (List ℕ) → ℕ → List ℕ → Prog Listed
 pairs zero end type value n acc = overValue type value
 pairs (suc u) end type value n acc = do
   x ← pairWith type value
-  eatWs
+  _ ← eatWs
   byteIf (byte ",") (pairs u end type value (n + 2) (acc ++ x)) (byteIf end (ret (listed (n + 2) 0 (acc ++ x))) (refuse 3))
 
 -- `parse_array_const`, `parse_struct_const`, behind the opening byte; 32,767 pairs are 65,534 children
 unfoldable pub pairList : ℕ → Prog TypeOut → Prog (List ℕ) → Prog Listed
-pairList end type value = eatWs >> byteIf end (ret (listed 0 0 [])) (pairs 32767 end type value 0 [])
+pairList end type value = eatWs >>= λ _. byteIf end (ret (listed 0 0 [])) (pairs 32767 end type value 0 [])
 
 unfoldable pub aggregate : ℕ → ℕ → Prog TypeOut → Prog (List ℕ) → Prog (List ℕ)
 aggregate kind end type value = do
@@ -123,7 +123,7 @@ packedConst i type value =
     byteIf (byte "{")
     (do
       l ← pairList (byte "}") type value
-      expectToken (byte ">")
+      _ ← expectToken (byte ">")
       ret (node kStructConst 0 (countOf l) (wordsOf l)))
     (fail 6 i)
 
@@ -131,21 +131,21 @@ packedConst i type value =
 unfoldable pub parseGepFlags : ℕ → ℕ → Prog ℕ
 parseGepFlags zero inbounds = ret inbounds
 parseGepFlags (suc u) inbounds = do
-  eatWs
+  _ ← eatWs
   wordIf (bytes "inbounds") (parseGepFlags u 1)
     (wordIf (bytes "nuw") (parseGepFlags u inbounds)
     (wordIf (bytes "nusw") (parseGepFlags u inbounds)
-    (wordIf (bytes "inrange") (skipParens >> parseGepFlags u inbounds)
+    (wordIf (bytes "inrange") (skipParens >>= λ _. parseGepFlags u inbounds)
     (ret inbounds))))
 
 -- the indices of a constant getelementptr, from before the comma through the `)`; base type, type and value of the base stand before them
 unfoldable pub gepIndices : ℕ → Prog TypeOut → Prog (List ℕ) → ℕ → List ℕ → Prog Listed
 gepIndices zero type value n acc =
-    tokenIf (byte ",") (skipKeyword (bytes "inrange") >> overType type) (byteIf (byte ")") (ret (listed n 0 acc)) (refuse 3))
+    tokenIf (byte ",") (skipKeyword (bytes "inrange") >>= λ _. overType type) (byteIf (byte ")") (ret (listed n 0 acc)) (refuse 3))
 gepIndices (suc u) type value n acc =
     tokenIf (byte ",")
     (do
-      skipKeyword (bytes "inrange")
+      _ ← skipKeyword (bytes "inrange")
       x ← pairWith type value
       gepIndices u type value (n + 2) (acc ++ x))
     (byteIf (byte ")") (ret (listed n 0 acc)) (refuse 3))
@@ -154,9 +154,9 @@ gepIndices (suc u) type value n acc =
 unfoldable pub parseCeGep : Prog TypeOut → Prog (List ℕ) → Prog (List ℕ)
 parseCeGep type value = do
   inbounds ← parseGepFlags turns 0
-  expectToken (byte "(")
+  _ ← expectToken (byte "(")
   t ← whole 3 type
-  expectToken (byte ",")
+  _ ← expectToken (byte ",")
   x ← pairWith type value
   l ← gepIndices 32766 type value 3 []
   ret (node kGepExpr inbounds (countOf l) ((t ++ x) ++ wordsOf l))
@@ -164,22 +164,22 @@ parseCeGep type value = do
 -- a conversion of a constant, behind the word (`parse_ce_conv_body`)
 unfoldable pub parseCeConv : ℕ → Prog TypeOut → Prog (List ℕ) → Prog (List ℕ)
 parseCeConv op type value = do
-  expectToken (byte "(")
+  _ ← expectToken (byte "(")
   x ← pairWith type value
-  expectKeyword (bytes "to")
+  _ ← expectKeyword (bytes "to")
   t ← whole 3 type
-  expectToken (byte ")")
+  _ ← expectToken (byte ")")
   ret (node kConvExpr op 3 (x ++ t))
 
 -- an operation on two constants, behind the word
 unfoldable pub parseCeBin : ℕ → Prog TypeOut → Prog (List ℕ) → Prog (List ℕ)
 parseCeBin op type value = do
-  skipArithFlags
-  expectToken (byte "(")
+  _ ← skipArithFlags
+  _ ← expectToken (byte "(")
   x ← pairWith type value
-  expectToken (byte ",")
+  _ ← expectToken (byte ",")
   y ← pairWith type value
-  expectToken (byte ")")
+  _ ← expectToken (byte ")")
   ret (node kBinExpr op 4 (x ++ y))
 
 unfoldable pub constExprs : Prog TypeOut → Prog (List ℕ) → Prog (List ℕ)
@@ -192,7 +192,7 @@ constExprs type value =
 -- "A value holds typed values, each of which holds a value": what a value of one level more holds
 unfoldable pub valueWith : Prog TypeOut → Prog (List ℕ) → Prog (List ℕ)
 valueWith type value = do
-  eatWs
+  _ ← eatWs
   i ← place
   leafValues
     (byteIf (byte "[") (aggregate kArrayConst (byte "]") type value)
@@ -202,7 +202,7 @@ valueWith type value = do
 
 -- `parse_value`, where d levels are left; types and values share the count
 unfoldable pub parseValue : ℕ → Prog (List ℕ)
-parseValue zero = eatWs >> refuse 16
+parseValue zero = eatWs >>= λ _. refuse 16
 parseValue (suc d) = valueWith (parseType d) (parseValue d)
 
 unfoldable pub parseTypedVal : ℕ → Prog (List ℕ)

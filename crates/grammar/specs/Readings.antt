@@ -1,0 +1,115 @@
+-- 01, "Known readings": the starred ones, one table with one theorem by computation on these very definitions.
+-- Assumes nothing.
+use mathlib.Core.Path.{_≡_, refl}
+use mathlib.Core.List.{List, [], _∷_, _++_, map}
+use Prim.Native.Nat.{ℕ, zero, _/_, _%_}
+use lib.ListN.{length}
+use Rattle.program.specs.Bytes.{bytes}
+use Rattle.program.specs.Class as Class
+use Rattle.program.specs.Prog as Prog
+use Rattle.records.specs.Words as Words
+use Rattle.records.specs.Pieces as Pieces
+use Rattle.records.specs.Piece as Piece
+use Rattle.grammar.specs.Lexer as Lexer
+use Rattle.grammar.specs.Numbers as Numbers
+use Rattle.grammar.specs.Attributes as Attributes
+use Rattle.grammar.specs.Types as Types
+use Rattle.grammar.specs.Values as Values
+use Rattle.grammar.specs.Instructions as Instructions
+use Rattle.grammar.specs.Body as Body
+use Rattle.grammar.specs.Again as Again
+
+-- What is asked of a text: a full reading, a re-reading from an older text, a type or a value at its start.
+pub data Asked : Type 0 where
+  function : List ℕ → Asked
+  edit : List ℕ → List ℕ → Asked
+  type : List ℕ → Asked
+  value : List ℕ → Asked
+
+abbrev pub parts : List ℕ → List ℕ
+parts [] = []
+parts (x ∷ xs) = x / 4294967296 ∷ x % 4294967296 ∷ parts xs
+
+-- Accepted: the entry count, what is in front, the words and the directory's fields. Refused: 0, number, place.
+abbrev pub shownLeft : List ℕ → Pieces.Left → List ℕ
+shownLeft r (Pieces.left (Pieces.Answer.no-at q p) ws ds) = 0 ∷ q ∷ p ∷ []
+shownLeft r (Pieces.left (Pieces.count n) ws ds) = n ∷ (r ++ (ws ++ parts ds))
+
+-- Re-reading from the records of a full reading of the older text: `first` and `read` are in front.
+abbrev pub shownAgain : Pieces.Again → List ℕ
+shownAgain (Pieces.again-left l a b) = shownLeft (a ∷ b ∷ []) l
+
+abbrev pub againFrom : List ℕ → List ℕ → Pieces.Left → List ℕ
+againFrom older newer (Pieces.left (Pieces.Answer.no-at q p) ws ds) = 0 ∷ q ∷ p ∷ []
+againFrom older newer (Pieces.left (Pieces.count n) ws ds) = shownAgain (Again.rereadingOf ws ds n older newer)
+
+abbrev pub shownType : Prog.Res Types.TypeOut → List ℕ
+shownType (Prog.ok (Types.plain t) j) = 1 ∷ j ∷ t
+shownType (Prog.ok (Types.opened t l i) j) = 2 ∷ i ∷ t
+shownType (Prog.closed ws j) = []
+shownType (Prog.no-at q p) = 0 ∷ q ∷ p ∷ []
+
+abbrev pub shownValue : Prog.Res (List ℕ) → List ℕ
+shownValue (Prog.ok v j) = 1 ∷ j ∷ v
+shownValue (Prog.closed ws j) = []
+shownValue (Prog.no-at q p) = 0 ∷ q ∷ p ∷ []
+
+-- Eleven words and a directory of three entries are lent to a function.
+unfoldable pub answer : Asked → List ℕ
+unfolding Class.classOf Class.isSpace Class.isDigit Class.isHex Class.isWord Class.isName Prog.byteAt Prog.leadWord Prog.scanLen Prog.run Prog._>>=_ Prog.ends Prog.next Words.pack Words.node Pieces.mapRun Pieces.firstHigh Pieces.whole Pieces.judge Pieces.pad Pieces.allWords Pieces.entries Pieces.countRun Pieces.leave Pieces.andThen Pieces.consOld Pieces.chain Pieces.olds Pieces.common Pieces.commonEnd Pieces.leads Pieces.addrspace Pieces.closes Pieces.keptRest Pieces.keptFront Pieces.size Pieces.wordsOf Pieces.isFresh Pieces.sumRun Pieces.before Pieces.oldSizes Pieces.oldWords Pieces.from Pieces.fromBlocks Pieces.joins Pieces.endOf Pieces.leftOf Pieces.leaveAgain Pieces.blocksIn Pieces.blocks Pieces.reading Pieces.fullVerdict Pieces.full Pieces.againIn Pieces.again Pieces.behindFront Pieces.keeps Pieces.rest Pieces.judgeAgain Pieces.rereadOf Pieces.reread Piece.headOf Piece.blockOf Piece.headRead Piece.blockRead Lexer.refuse Lexer.place Lexer.spaceStep Lexer.eatWs Lexer.isByte Lexer.byteIf Lexer.byteAtIf Lexer.sameWord Lexer.startsWith Lexer.eatN Lexer.wordIf Lexer.wordAtIf Lexer.rank Lexer.rankIf Lexer.tokenIf Lexer.expectToken Lexer.expectKeyword Lexer.skipKeyword Lexer.skipOne Lexer.skipAll Lexer.dotsIf Lexer.stateOf Lexer.nameStep Lexer.quoteStep Lexer.sizeOf Lexer.unescape Lexer.spelled Lexer.sameName Lexer.quoteEnd Lexer.readWord Lexer.nameOf Lexer.nameWord Lexer.parseLocalName Lexer.parseGlobalName Lexer.balanceStep Lexer.balanced Lexer.skipParens Lexer.skipMetadataRef Lexer.cstringStep Lexer.cstringEnd Lexer.cstringAt Numbers.digitStep Numbers.digits Numbers.valueOf Numbers.countDigits Numbers.numberOf Numbers.parseInt Numbers.twos Numbers.largest Numbers.hexOf Numbers.hexStep Numbers.inside Numbers.parseHexFloat Numbers.log2 Numbers.widenParts Numbers.widen Numbers.parseF0x Numbers.isOdd Numbers.rounded Numbers.nearestAt Numbers.nearest Numbers.zerosOf Numbers.scaledBits Numbers.decimalBits Numbers.readSign Numbers.readExponent Numbers.behindPoint Numbers.readNumeric Numbers.isEmpty Numbers.isFloat Numbers.isValid Numbers.digitsOf Numbers.upOf Numbers.downOf Numbers.floatOf Numbers.signed Numbers.integerOf Numbers.decimalOf Numbers.literalOf Numbers.parseNumeral Attributes.flagAttrs Attributes.parenAttrs Attributes.linkages Attributes.callingConventions Attributes.arithFlags Attributes.fastMathFlags Attributes.convFlags Attributes.groupStep Attributes.skipAttrsIn Attributes.skipAttrs Attributes.parseLinkage Attributes.skipCallCconv Attributes.skipArithFlags Attributes.skipFastMathFlags Types.wholeOf Types.whole Types.items Types.structFields Types.typeItems Types.parseTypeList Types.intType Types.nameNode Types.optAddrspace Types.ptrType Types.leafTypes Types.arrayType Types.structType Types.packedType Types.parseBaseType Types.suffixes Types.typeWith Types.noType Types.parseType Values.convOps Values.binOps Values.prefixIf Values.literalWords Values.floatNode Values.numeral Values.digitIf Values.numericOr Values.cstring Values.leafValues Values.pairWith Values.overValue Values.overType Values.pairs Values.pairList Values.aggregate Values.packedConst Values.parseGepFlags Values.gepIndices Values.parseCeGep Values.parseCeConv Values.parseCeBin Values.constExprs Values.valueWith Values.parseValue Values.parseTypedVal Instructions.labelNode Instructions.parseOperand Instructions.parseTrailingIn Instructions.parseTrailing Instructions.orderings Instructions.skipAtomicOrdering Instructions.twoOperands Instructions.parseBin Instructions.parseFbin Instructions.parseFneg Instructions.parseConv Instructions.icmpPreds Instructions.fcmpPreds Instructions.predicate Instructions.parseIcmp Instructions.parseFcmp Instructions.parseSelect Instructions.loadOperands Instructions.parseLoad Instructions.storeOperands Instructions.parseStore Instructions.parseCmpxchg Instructions.parseExtractvalue Instructions.parseFence Instructions.allocaNode Instructions.allocaRest Instructions.parseAlloca Instructions.gepInstIndices Instructions.parseGepInst Instructions.phiItems Instructions.parsePhi Instructions.parseFreeze Instructions.overArg Instructions.argItems Instructions.parseArgList Instructions.funcNode Instructions.callRest Instructions.callOf Instructions.parseCall Instructions.parseTailCall Instructions.parseRet Instructions.target Instructions.parseBr Instructions.caseWords Instructions.switchCases Instructions.switchNode Instructions.parseSwitch Instructions.parseUnreachable Instructions.fbinOps Instructions.instConvOps Instructions.among Instructions.isWordThen Instructions.tailWords Instructions.valueInst Instructions.plainInst Body.parseInst Body.asTerminator Body.opcode Body.statementOf Body.wordStatement Body.parseStatement Body.finishBlock Body.overAt Body.parseBody Body.parseBlock Body.paramOf Body.parseParam Body.paramItems Body.parseParamList Body.headNode Body.parseHead Again.headAt Again.blockAt Again.readingOf Again.rereadingOf
+answer (function text) = shownLeft [] (Again.readingOf 11 6 text)
+answer (edit older newer) = againFrom older newer (Again.readingOf 11 6 older)
+answer (type text) = shownType (Prog.run (Types.parseType Types.depthLimit) 0 text)
+answer (value text) = shownValue (Prog.run (Values.parseValue Types.depthLimit) 0 text)
+
+abbrev pub asked : List Asked
+asked =
+    function (bytes "void @f(){ret void}")
+    ∷ edit (bytes "void @f(){ret void}") (bytes "void @f(){ret i32 7}")
+    ∷ edit (bytes "void @f(){ret void}") (bytes "void @f(){ret void}")
+    ∷ edit (bytes "void @f(){ret void}") (bytes "void @f(){}ret void}")
+    ∷ function (bytes "void @f(){}")
+    ∷ function []
+    ∷ type (bytes "i8388608")
+    ∷ type (bytes "i8388609")
+    ∷ value (bytes "170141183460469231731687303715884105727")
+    ∷ value (bytes "170141183460469231731687303715884105728")
+    ∷ value (bytes "-170141183460469231731687303715884105728")
+    ∷ value (bytes "f0x3F800000")
+    ∷ value (bytes "f0x00000001")
+    ∷ value (bytes "1.3")
+    ∷ value (bytes "1e23")
+    ∷ function (bytes "void @f(){a: b: ret void}")
+    ∷ []
+
+-- The headers of what stands there: a head with one child, a block with one, `ret` without and with a value.
+abbrev pub known : List (List ℕ)
+known =
+    -- 3 pieces, 6 words: head (name `f`), void; block (no label), ret; then the directory, piece by piece
+    (3 ∷ 0x3C0A_0001_0000_0003 ∷ 0x0000_0006_0000_0001 ∷ 0x0100_0000_0000_0001 ∷ 0x3D00_0001_0000_0003 ∷ 0 ∷ 0x3400_0000_0000_0001 ∷ 0 ∷ 0 ∷ 0 ∷ 0 ∷ 0 ∷ 0 ∷ 10 ∷ 0 ∷ 3 ∷ 10 ∷ 8 ∷ 3 ∷ 3 ∷ 18 ∷ 1 ∷ 6 ∷ 0 ∷ [])
+    -- first 1, read 1, 11 words
+    ∷ (3 ∷ 1 ∷ 1 ∷ 0x3C0A_0001_0000_0003 ∷ 0x0000_0006_0000_0001 ∷ 0x0100_0000_0000_0001 ∷ 0x3D00_0001_0000_0008 ∷ 0 ∷ 0x3401_0002_0000_0006 ∷ 0x0200_0000_0000_0002 ∷ 32 ∷ 0x1200_0000_0000_0003 ∷ 0 ∷ 7 ∷ 0 ∷ 10 ∷ 0 ∷ 3 ∷ 10 ∷ 9 ∷ 3 ∷ 8 ∷ 19 ∷ 1 ∷ 11 ∷ 0 ∷ [])
+    -- first 2, read 1
+    ∷ (3 ∷ 2 ∷ 1 ∷ 0x3C0A_0001_0000_0003 ∷ 0x0000_0006_0000_0001 ∷ 0x0100_0000_0000_0001 ∷ 0x3D00_0001_0000_0003 ∷ 0 ∷ 0x3400_0000_0000_0001 ∷ 0 ∷ 0 ∷ 0 ∷ 0 ∷ 0 ∷ 0 ∷ 10 ∷ 0 ∷ 3 ∷ 10 ∷ 8 ∷ 3 ∷ 3 ∷ 18 ∷ 1 ∷ 6 ∷ 0 ∷ [])
+    -- first 0, read 2
+    ∷ (2 ∷ 0 ∷ 2 ∷ 0x3C0A_0001_0000_0003 ∷ 0x0000_0006_0000_0001 ∷ 0x0100_0000_0000_0001 ∷ 0 ∷ 0 ∷ 0 ∷ 0 ∷ 0 ∷ 0 ∷ 0 ∷ 0 ∷ 0 ∷ 10 ∷ 0 ∷ 3 ∷ 10 ∷ 1 ∷ 3 ∷ 0 ∷ 0 ∷ 0 ∷ 0 ∷ 0 ∷ [])
+    -- 2 pieces
+    ∷ (2 ∷ 0x3C0A_0001_0000_0003 ∷ 0x0000_0006_0000_0001 ∷ 0x0100_0000_0000_0001 ∷ 0 ∷ 0 ∷ 0 ∷ 0 ∷ 0 ∷ 0 ∷ 0 ∷ 0 ∷ 0 ∷ 10 ∷ 0 ∷ 3 ∷ 10 ∷ 1 ∷ 3 ∷ 0 ∷ 0 ∷ 0 ∷ 0 ∷ 0 ∷ [])
+    -- 5 at 0
+    ∷ (0 ∷ 5 ∷ 0 ∷ [])
+    ∷ (1 ∷ 8 ∷ 0x0200_0000_0000_0002 ∷ 8388608 ∷ [])
+    ∷ (0 ∷ 15 ∷ 8 ∷ [])
+    ∷ (1 ∷ 39 ∷ 0x1200_0000_0000_0003 ∷ 0x7FFF_FFFF_FFFF_FFFF ∷ 0xFFFF_FFFF_FFFF_FFFF ∷ [])
+    ∷ (0 ∷ 7 ∷ 39 ∷ [])
+    ∷ (1 ∷ 40 ∷ 0x1200_0000_0000_0003 ∷ 0x8000_0000_0000_0000 ∷ 0 ∷ [])
+    ∷ (1 ∷ 11 ∷ 0x1300_0000_0000_0002 ∷ 0x3FF0_0000_0000_0000 ∷ [])
+    ∷ (1 ∷ 11 ∷ 0x1300_0000_0000_0002 ∷ 0x36A0_0000_0000_0000 ∷ [])
+    ∷ (1 ∷ 3 ∷ 0x1300_0000_0000_0002 ∷ 0x3FF4_CCCC_CCCC_CCCD ∷ [])
+    ∷ (0 ∷ 17 ∷ 4 ∷ [])
+    -- one block, whose label is the byte at 3 of its piece: `b`
+    ∷ (3 ∷ 0x3C0A_0001_0000_0003 ∷ 0x0000_0006_0000_0001 ∷ 0x0100_0000_0000_0001 ∷ 0x3D00_0001_0000_0003 ∷ 0x0000_0003_0000_0001 ∷ 0x3400_0000_0000_0001 ∷ 0 ∷ 0 ∷ 0 ∷ 0 ∷ 0 ∷ 0 ∷ 10 ∷ 0 ∷ 3 ∷ 10 ∷ 14 ∷ 3 ∷ 3 ∷ 24 ∷ 1 ∷ 6 ∷ 0 ∷ [])
+    ∷ []
+
+pub known-readings : map answer asked ≡ known
+unfolding answer
+known-readings = refl
