@@ -22,6 +22,7 @@ then-moves {A} {B} f h i j s b k e = go (run f i s) refl
   where
     w : next h i s (run f i s) ≡ ok b j
     w = sym (run-bind f h i s) ∙ e
+
     go : (r : Res A) → run f i s ≡ r → suc i ≤ j
     go (ok a m) t = let w2 : next h i s (ok a m) ≡ ok b j = rw t at w in omega (arith, k a m t, mono (h a) m j (drop (m - i) s) (rw w2 refl) .0)
     go (closed ws m) t = let w2 : next h i s (closed ws m) ≡ ok b j = rw t at w in let z : _≡_ {A = ℕ} 0 1 = cc in absurd (omega arith)
@@ -65,9 +66,9 @@ pub data Some : Word → Type 0 where
 unquoted-moves : (i j : ℕ) (s : List ℕ) (w : Word) → Some w → run (scan nameStep 0 (λ w. ret (plain w))) i s ≡ ok w j → suc i ≤ j
 unfolding run
 unquoted-moves i j s (plain (x ∷ w)) some-plain e =
-  let t : take (scanLen nameStep 0 s) s ≡ x ∷ w = cc in
-  let n : i + scanLen nameStep 0 s ≡ j = cc in
-  omega (arith, some-taken (scanLen nameStep 0 s) s x w t)
+    let t : take (scanLen nameStep 0 s) s ≡ x ∷ w = cc in
+    let n : i + scanLen nameStep 0 s ≡ j = cc in
+    omega (arith, some-taken (scanLen nameStep 0 s) s x w t)
 unquoted-moves i j s (quoted w) some-quoted e = let z : _≡_ {A = ℕ} 0 1 = cc in absurd (omega arith)
 
 word-moves : (i j : ℕ) (s : List ℕ) (w : Word) → Some w → run readWord i s ≡ ok w j → suc i ≤ j
@@ -86,10 +87,11 @@ word-statement-moves i j s a e = go (run readWord i s) refl
   where
     w : next (statementOf i) i s (run readWord i s) ≡ ok a j
     w = sym (run-bind readWord (statementOf i) i s) ∙ e
+
     go : (r : Res Word) → run readWord i s ≡ r → suc i ≤ j
     go (ok v m) t =
-      let w2 : run (statementOf i v) m (drop (m - i) s) ≡ ok a j = rw t at w in
-      omega (arith, word-moves i m s v (statement-some i m j (drop (m - i) s) a v w2) t, mono (statementOf i v) m j (drop (m - i) s) (rw w2 refl) .0)
+        let w2 : run (statementOf i v) m (drop (m - i) s) ≡ ok a j = rw t at w in
+        omega (arith, word-moves i m s v (statement-some i m j (drop (m - i) s) a v w2) t, mono (statementOf i v) m j (drop (m - i) s) (rw w2 refl) .0)
     go (closed ws m) t = let w2 : next (statementOf i) i s (closed ws m) ≡ ok a j = rw t at w in let z : _≡_ {A = ℕ} 0 1 = cc in absurd (omega arith)
     go (no-at q p) t = let w2 : next (statementOf i) i s (no-at q p) ≡ ok a j = rw t at w in let z : _≡_ {A = ℕ} 0 1 = cc in absurd (omega arith)
 
@@ -101,7 +103,7 @@ body-moves : (u l n over : ℕ) (acc s : List ℕ) (e : ℕ) (ws : List ℕ) →
 unfolding parseBody run refuse
 body-moves zero l n over acc s e ws h = let z : _≡_ {A = ℕ} 0 1 = cc in absurd (omega arith)
 body-moves (suc u) l n over acc s e ws h =
-  space-moves _ e s ws (λ i r w. last-moves 125 _ i e r ws (λ m x. then-moves parseStatement _ i m r ws (λ a m2 y. statement-moves i m2 r a y) x) w) h
+    space-moves _ e s ws (λ i r w. last-moves 125 _ i e r ws (λ m x. then-moves parseStatement _ i m r ws (λ a m2 y. statement-moves i m2 r a y) x) w) h
 
 pub block-moves : (s : List ℕ) (e : ℕ) (ws : List ℕ) → run parseBlock 0 s ≡ ok ws e → 1 ≤ e
 unfolding parseBlock
@@ -124,6 +126,6 @@ rereadingOf words dir entries older newer = reread headAt blockAt words dir entr
 
 -- Demand 3: on the records of an accepted full reading of the older text, re-reading leaves what a full reading of the newer text leaves.
 pub again-same : (W D n : ℕ) (ws ds older newer : List ℕ) → readingOf W D older ≡ left (count n) ws ds
-  → leftOf (rereadingOf ws ds n older newer) ≡ readingOf W D newer
+    → leftOf (rereadingOf ws ds n older newer) ≡ readingOf W D newer
 unfolding headAt blockAt readingOf rereadingOf
 again-same = same headAt blockAt (grammar parseHead parseBlock block-moves)

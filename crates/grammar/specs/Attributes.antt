@@ -72,10 +72,10 @@ skipAttrsIn zero = ret tt
 skipAttrsIn (suc u) = do
   _ ← eatWs
   byteIf (byte "#") (scan groupStep 0 (λ w. skipAttrsIn u))
-    (byteAtIf 34 (refuse 18)
-    (rankIf parenAttrs (λ r. skipParens >>= λ _. skipAttrsIn u)
-    (wordIf (bytes "align") (eatWs >>= λ _. (parseInt 0 most64 >>= λ _. skipAttrsIn u))
-    (rankIf flagAttrs (λ r. skipAttrsIn u) (ret tt)))))
+      (byteAtIf 34 (refuse 18)
+      (rankIf parenAttrs (λ r. skipParens >>= λ _. skipAttrsIn u)
+      (wordIf (bytes "align") (eatWs >>= λ _. (parseInt 0 most64 >>= λ _. skipAttrsIn u))
+      (rankIf flagAttrs (λ r. skipAttrsIn u) (ret tt)))))
 
 unfoldable pub skipAttrs : Prog (Unit {0})
 skipAttrs = skipAttrsIn turns

@@ -64,9 +64,10 @@ parseStatement = byteIf (byte "%") parseInst wordStatement
 -- "the tail has no node", so 19 is asked here: behind the 65,536th child, be it that instruction or the terminator.
 unfoldable pub finishBlock : ℕ → ℕ → ℕ → List ℕ → List ℕ → Prog (List ℕ)
 finishBlock l n over acc term =
-    elim (ltb n childLimit)
-    [ true ↦ ret (node kBlock 0 (n + 1) (l ∷ (acc ++ term)))
-    | false ↦ elim (ltb childLimit n) [ true ↦ fail 19 over | false ↦ refuse 19 ] ]
+    elim (ltb n childLimit) [
+      | true ↦ ret (node kBlock 0 (n + 1) (l ∷ (acc ++ term)))
+      | false ↦ elim (ltb childLimit n) [ true ↦ fail 19 over | false ↦ refuse 19 ]
+    ]
 
 -- the place behind the 65,536th instruction, once it is read
 unfoldable pub overAt : ℕ → ℕ → ℕ → ℕ
@@ -81,10 +82,11 @@ parseBody (suc u) l n over acc = do
   last (byte "}") [] (do
     s ← parseStatement
     j ← place
-    elim s
-      [ label m ↦ parseBody u m n over acc
+    elim s [
+      | label m ↦ parseBody u m n over acc
       | instruction ws ↦ parseBody u l (n + 1) (overAt n over j) (acc ++ ws)
-      | terminator ws ↦ finishBlock l n over acc ws ])
+      | terminator ws ↦ finishBlock l n over acc ws
+    ])
 
 unfoldable pub parseBlock : Prog (List ℕ)
 parseBlock = parseBody turns 0 0 0 []

@@ -40,11 +40,11 @@ parseTrailingIn (suc u) align =
     (do
       _ ← eatWs
       wordIf (bytes "align")
-        (do
-          _ ← eatWs
-          n ← parseInt 0 most64
-          parseTrailingIn u (n ∷ []))
-        (byteIf (byte "!") (skipMetadataRef >>= λ _. parseTrailingIn u align) (refuse 11)))
+          (do
+            _ ← eatWs
+            n ← parseInt 0 most64
+            parseTrailingIn u (n ∷ []))
+          (byteIf (byte "!") (skipMetadataRef >>= λ _. parseTrailingIn u align) (refuse 11)))
     (ret align)
 
 unfoldable pub parseTrailing : Prog (List ℕ)
@@ -157,17 +157,17 @@ unfoldable pub parseLoad : ℕ → Prog (List ℕ)
 parseLoad dest = do
   _ ← eatWs
   wordIf (bytes "atomic")
-    (do
-      _ ← skipKeyword (bytes "volatile")
-      x ← loadOperands
-      _ ← skipAtomicOrdering
-      _ ← parseTrailing
-      ret (node kAtomicLoad 0 2 (dest ∷ x)))
-    (do
-      _ ← skipKeyword (bytes "volatile")
-      x ← loadOperands
-      align ← parseTrailing
-      ret (node kLoad (length align) 2 (dest ∷ (align ++ x))))
+      (do
+        _ ← skipKeyword (bytes "volatile")
+        x ← loadOperands
+        _ ← skipAtomicOrdering
+        _ ← parseTrailing
+        ret (node kAtomicLoad 0 2 (dest ∷ x)))
+      (do
+        _ ← skipKeyword (bytes "volatile")
+        x ← loadOperands
+        align ← parseTrailing
+        ret (node kLoad (length align) 2 (dest ∷ (align ++ x))))
 
 -- T V, T V
 unfoldable pub storeOperands : Prog (List ℕ)
@@ -181,17 +181,17 @@ unfoldable pub parseStore : Prog (List ℕ)
 parseStore = do
   _ ← eatWs
   wordIf (bytes "atomic")
-    (do
-      _ ← skipKeyword (bytes "volatile")
-      x ← storeOperands
-      _ ← skipAtomicOrdering
-      _ ← parseTrailing
-      ret (node kAtomicStore 0 3 (0 ∷ x)))
-    (do
-      _ ← skipKeyword (bytes "volatile")
-      x ← storeOperands
-      align ← parseTrailing
-      ret (node kStore (length align) 3 (0 ∷ (align ++ x))))
+      (do
+        _ ← skipKeyword (bytes "volatile")
+        x ← storeOperands
+        _ ← skipAtomicOrdering
+        _ ← parseTrailing
+        ret (node kAtomicStore 0 3 (0 ∷ x)))
+      (do
+        _ ← skipKeyword (bytes "volatile")
+        x ← storeOperands
+        align ← parseTrailing
+        ret (node kStore (length align) 3 (0 ∷ (align ++ x))))
 
 -- read as pointer, type and comparand, new value; laid out as type, pointer, comparand, new value
 unfoldable pub parseCmpxchg : ℕ → Prog (List ℕ)
@@ -237,14 +237,14 @@ allocaRest (suc u) dest t count align =
     (do
       _ ← eatWs
       wordIf (bytes "align")
-        (do
-          _ ← eatWs
-          n ← parseInt 0 most64
-          allocaRest u dest t count (n ∷ []))
-        (byteIf (byte "!") (skipMetadataRef >>= λ _. allocaRest u dest t count align)
-        (do
-          x ← parseTypedVal depthLimit
-          allocaRest u dest t x align)))
+          (do
+            _ ← eatWs
+            n ← parseInt 0 most64
+            allocaRest u dest t count (n ∷ []))
+          (byteIf (byte "!") (skipMetadataRef >>= λ _. allocaRest u dest t count align)
+          (do
+            x ← parseTypedVal depthLimit
+            allocaRest u dest t x align)))
     (ret (allocaNode dest t count align))
 
 unfoldable pub parseAlloca : ℕ → Prog (List ℕ)
@@ -261,9 +261,10 @@ gepInstIndices (suc u) k acc =
     (do
       _ ← eatWs
       byteIf (byte "!") (skipMetadataRef >>= λ _. gepInstIndices u k acc)
-        (elim (ltb k 32766)
-        [ true ↦ parseTypedVal depthLimit >>= λ x. gepInstIndices u (k + 1) (acc ++ x)
-        | false ↦ overValue (parseType depthLimit) value ]))
+          (elim (ltb k 32766) [
+            | true ↦ parseTypedVal depthLimit >>= λ x. gepInstIndices u (k + 1) (acc ++ x)
+            | false ↦ overValue (parseType depthLimit) value
+          ]))
     (ret (listed k 0 acc))
 
 unfoldable pub parseGepInst : ℕ → Prog (List ℕ)
@@ -321,7 +322,7 @@ argItems (suc u) odd n acc = do
     v ← value
     _ ← eatWs
     byteIf (byte ",") (argItems u odd (n + 2) ((acc ++ t) ++ v))
-      (byteIf (byte ")") (ret (listed (n + 2) 0 ((acc ++ t) ++ v))) (refuse 3)))
+        (byteIf (byte ")") (ret (listed (n + 2) 0 ((acc ++ t) ++ v))) (refuse 3)))
 
 unfoldable pub parseArgList : Bool → ℕ → Prog Listed
 parseArgList odd n = eatWs >>= λ _. byteIf (byte ")") (ret (listed n 0 [])) (argItems 32766 odd n [])
@@ -366,11 +367,11 @@ unfoldable pub parseRet : Prog (List ℕ)
 parseRet = do
   _ ← eatWs
   wordIf (bytes "void")
-    (parseTrailing >>= λ _. ret (node kRet 0 0 []))
-    (do
-      x ← parseTypedVal depthLimit
-      _ ← parseTrailing
-      ret (node kRet 1 2 x))
+      (parseTrailing >>= λ _. ret (node kRet 0 0 []))
+      (do
+        x ← parseTypedVal depthLimit
+        _ ← parseTrailing
+        ret (node kRet 1 2 x))
 
 unfoldable pub target : Prog ℕ
 target = do
@@ -382,16 +383,16 @@ unfoldable pub parseBr : Prog (List ℕ)
 parseBr = do
   _ ← eatWs
   wordIf (bytes "label")
-    (do
-      l ← parseLocalName
-      _ ← parseTrailing
-      ret (node kBr 0 1 (labelNode l)))
-    (do
-      c ← parseOperand
-      a ← target
-      b ← target
-      _ ← parseTrailing
-      ret (node kBr 3 3 ((c ++ labelNode a) ++ labelNode b)))
+      (do
+        l ← parseLocalName
+        _ ← parseTrailing
+        ret (node kBr 0 1 (labelNode l)))
+      (do
+        c ← parseOperand
+        a ← target
+        b ← target
+        _ ← parseTrailing
+        ret (node kBr 3 3 ((c ++ labelNode a) ++ labelNode b)))
 
 -- a value's two words where it is an integer (question 12, behind the value)
 unfoldable pub caseWords : List ℕ → Prog (List ℕ)

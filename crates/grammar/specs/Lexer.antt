@@ -210,9 +210,10 @@ cstringStep q x =
 -- "two escape errors can put it one past the text's length": the byte behind the cursor is taken before 13 or 14 is known
 unfoldable pub cstringEnd : ℕ → List ℕ → Prog ℕ
 cstringEnd i w =
-    elim (eqb (stateOf cstringStep 0 w) 0)
-    [ true ↦ byteIf 34 (ret (pack i (length w + 2))) (refuse 13)
-    | false ↦ here (λ j. fail (pick (eqb (stateOf cstringStep 0 w) 1) 13 14) (j + 1)) ]
+    elim (eqb (stateOf cstringStep 0 w) 0) [
+      | true ↦ byteIf 34 (ret (pack i (length w + 2))) (refuse 13)
+      | false ↦ here (λ j. fail (pick (eqb (stateOf cstringStep 0 w) 1) 13 14) (j + 1))
+    ]
 
 -- `parse_cstring`, behind the `c` and the quote; i is the quote's place
 unfoldable pub cstringAt : ℕ → Prog ℕ

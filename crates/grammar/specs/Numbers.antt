@@ -89,9 +89,10 @@ widen b = widenParts (b / 2 ^ 31) (b / 2 ^ 23 % 256) (b % 2 ^ 23)
 -- behind `f0x`: "exactly 8 (binary32 widened) or 16"
 unfoldable pub parseF0x : Prog ℕ
 parseF0x =
-    scan hexStep 0 (λ w. elim (eqb (length w) 8)
-    [ true ↦ ret (widen (hexOf 0 w))
-    | false ↦ elim (eqb (length w) 16) [ true ↦ ret (hexOf 0 w) | false ↦ refuse 7 ] ])
+    scan hexStep 0 (λ w. elim (eqb (length w) 8) [
+      | true ↦ ret (widen (hexOf 0 w))
+      | false ↦ elim (eqb (length w) 16) [ true ↦ ret (hexOf 0 w) | false ↦ refuse 7 ]
+    ])
 
 unfoldable pub isOdd : ℕ → Bool
 isOdd n = eqb (n % 2) 1
@@ -115,9 +116,10 @@ zerosOf (suc u) m = test (eqb (m % 10) 0) (λ x. suc (zerosOf u (m / 10))) (λ x
 -- m times ten to the a less b. "Supported: zero, or at most 15 digits without outer zeros, times ten to the -22 up to 22."
 unfoldable pub scaledBits : ℕ → ℕ → ℕ → Option ℕ
 scaledBits m a b =
-    elim (ltb m (10 ^ 15) && (leb a (b + 22) && leb b (a + 22)))
-    [ true ↦ some (pick (leb b a) (nearest (m * 10 ^ (a - b)) 1) (nearest m (10 ^ (b - a))))
-    | false ↦ none ]
+    elim (ltb m (10 ^ 15) && (leb a (b + 22) && leb b (a + 22))) [
+      | true ↦ some (pick (leb b a) (nearest (m * 10 ^ (a - b)) 1) (nearest m (10 ^ (b - a))))
+      | false ↦ none
+    ]
 
 -- digits m, of which there are at most u, times ten to the a less b
 unfoldable pub decimalBits : ℕ → ℕ → ℕ → ℕ → Option ℕ
@@ -193,9 +195,10 @@ integerOf neg (x ∷ r) = elim (leb (valueOf 0 (x ∷ r)) (largest neg)) [ true 
 
 unfoldable pub decimalOf : Bool → Numeral → Prog Literal
 decimalOf neg n =
-    elim (isValid n)
-    [ true ↦ elim (floatOf n) [ some b ↦ ret (float (signed neg b)) | none ↦ refuse 17 ]
-    | false ↦ refuse 7 ]
+    elim (isValid n) [
+      | true ↦ elim (floatOf n) [ some b ↦ ret (float (signed neg b)) | none ↦ refuse 17 ]
+      | false ↦ refuse 7
+    ]
 
 -- a numeral behind its sign: "One with `.`, `e` or `E` is the binary64 nearest its value"; questions 7 and 17 behind it
 unfoldable pub literalOf : Bool → Numeral → Prog Literal

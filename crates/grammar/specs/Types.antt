@@ -152,13 +152,13 @@ suffixes (suc u) bad elem t = do
   _ ← eatWs
   j ← place
   byteIf (byte "(")
-    (do
-      l ← parseTypeList bad elem
-      _ ← eatWs
-      byteIf (byte "*") (suffixes u bad elem ptrWords) (ret (opened t l j)))
-    (do
-      _ ← optAddrspace
-      byteIf (byte "*") (suffixes u bad elem ptrWords) (ret (plain t)))
+      (do
+        l ← parseTypeList bad elem
+        _ ← eatWs
+        byteIf (byte "*") (suffixes u bad elem ptrWords) (ret (opened t l j)))
+      (do
+        _ ← optAddrspace
+        byteIf (byte "*") (suffixes u bad elem ptrWords) (ret (plain t)))
 
 unfoldable pub typeWith : ℕ → Prog TypeOut → Prog TypeOut
 typeWith bad elem = do

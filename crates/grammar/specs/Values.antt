@@ -48,16 +48,16 @@ digitIf p q = look (λ x. elim (isDigit x) [ true ↦ p | false ↦ q ])
 unfoldable pub numericOr : Prog (List ℕ) → Prog (List ℕ)
 numericOr g =
     byteIf (byte "+")
-      (prefixIf (bytes "inf") (floatNode 0x7FF0_0000_0000_0000)
-      (prefixIf (bytes "qnan") (floatNode 0x7FF8_0000_0000_0000)
-      (numeral false)))
+    (prefixIf (bytes "inf") (floatNode 0x7FF0_0000_0000_0000)
+    (prefixIf (bytes "qnan") (floatNode 0x7FF8_0000_0000_0000)
+    (numeral false)))
     (byteIf (byte "-")
-      (prefixIf (bytes "inf") (floatNode 0xFFF0_0000_0000_0000)
-      (numeral true))
+    (prefixIf (bytes "inf") (floatNode 0xFFF0_0000_0000_0000)
+    (numeral true))
     (digitIf
-      (prefixIf (bytes "0x") (parseHexFloat >>= floatNode)
-      (prefixIf (bytes "0X") (parseHexFloat >>= floatNode)
-      (numeral false)))
+    (prefixIf (bytes "0x") (parseHexFloat >>= floatNode)
+    (prefixIf (bytes "0X") (parseHexFloat >>= floatNode)
+    (numeral false)))
     g))
 
 -- `c".."`: a `c` before anything else is no value
@@ -133,10 +133,10 @@ parseGepFlags zero inbounds = ret inbounds
 parseGepFlags (suc u) inbounds = do
   _ ← eatWs
   wordIf (bytes "inbounds") (parseGepFlags u 1)
-    (wordIf (bytes "nuw") (parseGepFlags u inbounds)
-    (wordIf (bytes "nusw") (parseGepFlags u inbounds)
-    (wordIf (bytes "inrange") (skipParens >>= λ _. parseGepFlags u inbounds)
-    (ret inbounds))))
+      (wordIf (bytes "nuw") (parseGepFlags u inbounds)
+      (wordIf (bytes "nusw") (parseGepFlags u inbounds)
+      (wordIf (bytes "inrange") (skipParens >>= λ _. parseGepFlags u inbounds)
+      (ret inbounds))))
 
 -- the indices of a constant getelementptr, from before the comma through the `)`; base type, type and value of the base stand before them
 unfoldable pub gepIndices : ℕ → Prog TypeOut → Prog (List ℕ) → ℕ → List ℕ → Prog Listed
@@ -195,10 +195,10 @@ valueWith type value = do
   _ ← eatWs
   i ← place
   leafValues
-    (byteIf (byte "[") (aggregate kArrayConst (byte "]") type value)
-    (byteIf (byte "{") (aggregate kStructConst (byte "}") type value)
-    (byteIf (byte "<") (packedConst i type value)
-    (constExprs type value))))
+      (byteIf (byte "[") (aggregate kArrayConst (byte "]") type value)
+      (byteIf (byte "{") (aggregate kStructConst (byte "}") type value)
+      (byteIf (byte "<") (packedConst i type value)
+      (constExprs type value))))
 
 -- `parse_value`, where d levels are left; types and values share the count
 unfoldable pub parseValue : ℕ → Prog (List ℕ)

@@ -14,17 +14,17 @@ use Rattle.program.specs.Class.{isWord}
 
 pub data Prog (A : Type 0) : Type 0 where
   ret : A → Prog A
-  fail : ℕ → ℕ → Prog A                              -- number, place from the piece's start
-  look : (ℕ → Prog A) → Prog A                       -- the byte at the cursor, 256 at the text's end
-  eat : Prog A → Prog A                              -- one byte on
-  here : (ℕ → Prog A) → Prog A                       -- the cursor, from the piece's start
-  lead : (List ℕ → Prog A) → Prog A                  -- the letters, digits and `_` from the cursor on; it stays
-  scan : (ℕ → ℕ → Option ℕ) → ℕ → (List ℕ → Prog A) → Prog A   -- on while an automaton goes on; the bytes passed
-  last : ℕ → List ℕ → Prog A → Prog A                -- if that byte is at the cursor, through it, and the piece ends with these words
+  fail : ℕ → ℕ → Prog A  -- number, place from the piece's start
+  look : (ℕ → Prog A) → Prog A  -- the byte at the cursor, 256 at the text's end
+  eat : Prog A → Prog A  -- one byte on
+  here : (ℕ → Prog A) → Prog A  -- the cursor, from the piece's start
+  lead : (List ℕ → Prog A) → Prog A  -- the letters, digits and `_` from the cursor on; it stays
+  scan : (ℕ → ℕ → Option ℕ) → ℕ → (List ℕ → Prog A) → Prog A  -- on while an automaton goes on; the bytes passed
+  last : ℕ → List ℕ → Prog A → Prog A  -- if that byte is at the cursor, through it, and the piece ends with these words
 
 pub data Res (A : Type 0) : Type 0 where
-  ok : A → ℕ → Res A                                 -- value, cursor
-  closed : List ℕ → ℕ → Res A                        -- words, cursor: the piece is at its end
+  ok : A → ℕ → Res A  -- value, cursor
+  closed : List ℕ → ℕ → Res A  -- words, cursor: the piece is at its end
   no-at : ℕ → ℕ → Res A
 
 unfoldable pub byteAt : List ℕ → ℕ
@@ -87,8 +87,8 @@ mono (eat p) i m (x ∷ s) h = let r : (suc i ≤ m) × (m ≤ suc i + length s)
 mono (here k) i m s h = mono (k i) i m s h
 mono (lead k) i m s h = mono (k (leadWord s)) i m s h
 mono (scan f q k) i m s h =
-  let r : (i + scanLen f q s ≤ m) × (m ≤ i + scanLen f q s + length (drop (scanLen f q s) s)) = mono (k (take (scanLen f q s) s)) (i + scanLen f q s) m (drop (scanLen f q s) s) h in
-  (omega arith, omega (arith, length-drop (scanLen f q s) s, scanLen-le f q s))
+    let r : (i + scanLen f q s ≤ m) × (m ≤ i + scanLen f q s + length (drop (scanLen f q s) s)) = mono (k (take (scanLen f q s) s)) (i + scanLen f q s) m (drop (scanLen f q s) s) h in
+    (omega arith, omega (arith, length-drop (scanLen f q s) s, scanLen-le f q s))
 mono (last b ws p) i m [] h = mono p i m [] h
 mono (last b ws p) i m (x ∷ s) h = go (eqb x b && not (isWord x)) refl (mono p i m (x ∷ s))
   where
@@ -152,25 +152,25 @@ local (eat p) i (suc m) (x ∷ xs) ys zs h c = local p (suc i) m xs ys zs (let e
 local (here k) i m xs ys zs h c = local (k i) i m xs ys zs h c
 local (lead k) i m xs ys zs h c = rw (lead-local xs ys zs (ends-earlier m xs c)) (local (k (leadWord (xs ++ ys))) i m xs ys zs h c)
 local (scan f q k) i m xs ys zs h c =
-  let n : ℕ = scanLen f q (xs ++ ys) in
-  let r : (i + n ≤ i + m) × (i + m ≤ i + n + length (drop n (xs ++ ys))) = mono (k (take n (xs ++ ys))) (i + n) (i + m) (drop n (xs ++ ys)) h in
-  let lm : m < length xs = ends-lt m xs c in
-  let ln : n ≤ length xs = omega arith in
-  let same : scanLen f q (xs ++ zs) ≡ n = scan-local f q xs ys zs (omega arith) in
-  let d : n + (m - n) ≡ m = omega arith in
-  let e : i + m ≡ i + n + (m - n) = omega arith in
-  let ty : take n (xs ++ ys) ≡ take n xs = take-append-le n xs ys ln in
-  let tz : take n (xs ++ zs) ≡ take n xs = take-append-le n xs zs ln in
-  let dy : drop n (xs ++ ys) ≡ drop n xs ++ ys = drop-append-le n xs ys ln in
-  let dz : drop n (xs ++ zs) ≡ drop n xs ++ zs = drop-append-le n xs zs ln in
-  let h2 : EndsAt (run (k (take n xs)) (i + n) (drop n xs ++ ys)) (i + n + (m - n)) = rw (ty, dy, e) at h in
-  let c2 : ends (drop (m - n) (drop n xs)) ≡ true = rw (drop-drop (m - n) n xs, d) c in
-  rw (same, tz, ty, dy, dz) (local (k (take n xs)) (i + n) (m - n) (drop n xs) ys zs h2 c2)
+    let n : ℕ = scanLen f q (xs ++ ys) in
+    let r : (i + n ≤ i + m) × (i + m ≤ i + n + length (drop n (xs ++ ys))) = mono (k (take n (xs ++ ys))) (i + n) (i + m) (drop n (xs ++ ys)) h in
+    let lm : m < length xs = ends-lt m xs c in
+    let ln : n ≤ length xs = omega arith in
+    let same : scanLen f q (xs ++ zs) ≡ n = scan-local f q xs ys zs (omega arith) in
+    let d : n + (m - n) ≡ m = omega arith in
+    let e : i + m ≡ i + n + (m - n) = omega arith in
+    let ty : take n (xs ++ ys) ≡ take n xs = take-append-le n xs ys ln in
+    let tz : take n (xs ++ zs) ≡ take n xs = take-append-le n xs zs ln in
+    let dy : drop n (xs ++ ys) ≡ drop n xs ++ ys = drop-append-le n xs ys ln in
+    let dz : drop n (xs ++ zs) ≡ drop n xs ++ zs = drop-append-le n xs zs ln in
+    let h2 : EndsAt (run (k (take n xs)) (i + n) (drop n xs ++ ys)) (i + n + (m - n)) = rw (ty, dy, e) at h in
+    let c2 : ends (drop (m - n) (drop n xs)) ≡ true = rw (drop-drop (m - n) n xs, d) c in
+    rw (same, tz, ty, dy, dz) (local (k (take n xs)) (i + n) (m - n) (drop n xs) ys zs h2 c2)
 local (last b ws p) i m [] ys zs h c = absurd (ends-nil m c)
 local (last b ws p) i m (x ∷ xs) ys zs h c = go (eqb x b && not (isWord x)) refl (local p i m (x ∷ xs) ys zs)
   where
     go : (t : Bool) → (eqb x b && not (isWord x)) ≡ t → (EndsAt (run p i (x ∷ xs ++ ys)) (i + m) → ends (drop m (x ∷ xs)) ≡ true → run p i (x ∷ xs ++ zs) ≡ run p i (x ∷ xs ++ ys))
-      → run (last b ws p) i (x ∷ xs ++ zs) ≡ run (last b ws p) i (x ∷ xs ++ ys)
+        → run (last b ws p) i (x ∷ xs ++ zs) ≡ run (last b ws p) i (x ∷ xs ++ ys)
     go true t ih = rw (run, t)
     go false t ih = rw (run, t) (ih (rw (t, run) at h) c)
 
@@ -190,26 +190,26 @@ closing (fail q p) i m s ws h = let z : _≡_ {A = ℕ} 0 1 = cc in absurd (omeg
 closing (look k) i m s ws h = closing (k (byteAt s)) i m s ws h
 closing (eat p) i m [] ws h = let z : _≡_ {A = ℕ} 0 1 = cc in absurd (omega arith)
 closing (eat p) i zero (x ∷ s) ws h =
-  let r : (suc i ≤ i + 0) × (i + 0 ≤ suc i + length s) = mono p (suc i) (i + 0) s (rw h refl) in absurd (omega arith)
+    let r : (suc i ≤ i + 0) × (i + 0 ≤ suc i + length s) = mono p (suc i) (i + 0) s (rw h refl) in absurd (omega arith)
 closing (eat p) i (suc m) (x ∷ s) ws h = let e : i + suc m ≡ suc i + m = omega arith in closing p (suc i) m s ws (rw e at h)
 closing (here k) i m s ws h = closing (k i) i m s ws h
 closing (lead k) i m s ws h = closing (k (leadWord s)) i m s ws h
 closing (scan f q k) i m s ws h =
-  let n : ℕ = scanLen f q s in
-  let r : (i + n ≤ i + m) × (i + m ≤ i + n + length (drop n s)) = mono (k (take n s)) (i + n) (i + m) (drop n s) (rw h refl) in
-  let d : n + (m - n) ≡ m = omega arith in
-  let e : i + m ≡ i + n + (m - n) = omega arith in
-  let w : isWord (byteAt (drop (m - n) (drop n s))) ≡ false = closing (k (take n s)) (i + n) (m - n) (drop n s) ws (rw e at h) in
-  rw (drop-drop (m - n) n s, d) at w
+    let n : ℕ = scanLen f q s in
+    let r : (i + n ≤ i + m) × (i + m ≤ i + n + length (drop n s)) = mono (k (take n s)) (i + n) (i + m) (drop n s) (rw h refl) in
+    let d : n + (m - n) ≡ m = omega arith in
+    let e : i + m ≡ i + n + (m - n) = omega arith in
+    let w : isWord (byteAt (drop (m - n) (drop n s))) ≡ false = closing (k (take n s)) (i + n) (m - n) (drop n s) ws (rw e at h) in
+    rw (drop-drop (m - n) n s, d) at w
 closing (last b v p) i m [] ws h = closing p i m [] ws h
 closing (last b v p) i m (x ∷ s) ws h = go (eqb x b && not (isWord x)) refl (closing p i m (x ∷ s) ws)
   where
     go : (t : Bool) → (eqb x b && not (isWord x)) ≡ t → (run p i (x ∷ s) ≡ closed ws (suc (i + m)) → isWord (byteAt (drop m (x ∷ s))) ≡ false) → isWord (byteAt (drop m (x ∷ s))) ≡ false
     go true t ih =
-      let w : closed v (suc i) ≡ closed ws (suc (i + m)) = rw (run, t) at h in
-      let j : suc i ≡ suc (i + m) = cc in
-      let z : m ≡ 0 = omega arith in
-      rw z (not-true (isWord x) (and-right (eqb x b) (not (isWord x)) t))
+        let w : closed v (suc i) ≡ closed ws (suc (i + m)) = rw (run, t) at h in
+        let j : suc i ≡ suc (i + m) = cc in
+        let z : m ≡ 0 = omega arith in
+        rw z (not-true (isWord x) (and-right (eqb x b) (not (isWord x)) t))
     go false t ih = ih (rw (run, t) at h)
 
 settles : (m : ℕ) (xs ys : List ℕ) → m < length xs → isWord (byteAt (drop m (xs ++ ys))) ≡ false → ends (drop m xs) ≡ true
@@ -229,8 +229,8 @@ closed-range (eat p) i j (x ∷ s) ws h = let r : (suc (suc i) ≤ j) × (j ≤ 
 closed-range (here k) i j s ws h = closed-range (k i) i j s ws h
 closed-range (lead k) i j s ws h = closed-range (k (leadWord s)) i j s ws h
 closed-range (scan f q k) i j s ws h =
-  let r : (suc (i + scanLen f q s) ≤ j) × (j ≤ i + scanLen f q s + length (drop (scanLen f q s) s)) = closed-range (k (take (scanLen f q s) s)) (i + scanLen f q s) j (drop (scanLen f q s) s) ws h in
-  (omega arith, omega (arith, length-drop (scanLen f q s) s, scanLen-le f q s))
+    let r : (suc (i + scanLen f q s) ≤ j) × (j ≤ i + scanLen f q s + length (drop (scanLen f q s) s)) = closed-range (k (take (scanLen f q s) s)) (i + scanLen f q s) j (drop (scanLen f q s) s) ws h in
+    (omega arith, omega (arith, length-drop (scanLen f q s) s, scanLen-le f q s))
 closed-range (last b v p) i j [] ws h = closed-range p i j [] ws h
 closed-range (last b v p) i j (x ∷ s) ws h = go (eqb x b && not (isWord x)) refl (closed-range p i j (x ∷ s) ws)
   where
@@ -246,9 +246,9 @@ and-left false b h = let z : _≡_ {A = ℕ} 0 1 = cc in absurd (omega arith)
 pub closed-local : {A : Type 0} (p : Prog A) (xs ys zs : List ℕ) (e : ℕ) (ws : List ℕ) → run p 0 (xs ++ ys) ≡ closed ws e → e ≤ length xs → run p 0 (xs ++ zs) ≡ run p 0 (xs ++ ys)
 closed-local p xs ys zs zero ws h l = let r : (1 ≤ 0) × (0 ≤ 0 + length (xs ++ ys)) = closed-range p 0 0 (xs ++ ys) ws h in absurd (omega arith)
 closed-local p xs ys zs (suc m) ws h l =
-  let z : 0 + m ≡ m = zero-add m in
-  let b : isWord (byteAt (drop m (xs ++ ys))) ≡ false = closing p 0 m (xs ++ ys) ws (rw z h) in
-  local p 0 m xs ys zs (rw (h, z)) (settles m xs ys l b)
+    let z : 0 + m ≡ m = zero-add m in
+    let b : isWord (byteAt (drop m (xs ++ ys))) ≡ false = closing p 0 m (xs ++ ys) ws (rw z h) in
+    local p 0 m xs ys zs (rw (h, z)) (settles m xs ys l b)
 
 -- One program after another, for a proof about code: the second runs where the first ended.
 unfoldable pub next : {A B : Type 0} → (A → Prog B) → ℕ → List ℕ → Res A → Res B
@@ -265,9 +265,9 @@ next-drop {A} {B} p h i n s = go (run p (i + n) (drop n s)) refl
     go (closed ws j) e = refl
     go (no-at q x) e = refl
     go (ok a j) e =
-      let m : (i + n ≤ j) × (j ≤ i + n + length (drop n s)) = mono p (i + n) j (drop n s) (rw e refl) in
-      let d : n + (j - (i + n)) ≡ j - i = omega arith in
-      ap (run (h a) j) (drop-drop (j - (i + n)) n s ∙ ap (λ (k : ℕ). drop k s) d)
+        let m : (i + n ≤ j) × (j ≤ i + n + length (drop n s)) = mono p (i + n) j (drop n s) (rw e refl) in
+        let d : n + (j - (i + n)) ≡ j - i = omega arith in
+        ap (run (h a) j) (drop-drop (j - (i + n)) n s ∙ ap (λ (k : ℕ). drop k s) d)
 
 pub run-bind : {A B : Type 0} (p : Prog A) (h : A → Prog B) (i : ℕ) (s : List ℕ) → run (p >>= h) i s ≡ next h i s (run p i s)
 unfolding run _>>=_ next
@@ -279,7 +279,7 @@ run-bind (eat p) h i (x ∷ s) = run-bind p h (suc i) s ∙ (let e : suc i ≡ i
 run-bind (here k) h i s = run-bind (k i) h i s
 run-bind (lead k) h i s = run-bind (k (leadWord s)) h i s
 run-bind (scan f q k) h i s =
-  run-bind (k (take (scanLen f q s) s)) h (i + scanLen f q s) (drop (scanLen f q s) s) ∙ next-drop (k (take (scanLen f q s) s)) h i (scanLen f q s) s
+    run-bind (k (take (scanLen f q s) s)) h (i + scanLen f q s) (drop (scanLen f q s) s) ∙ next-drop (k (take (scanLen f q s) s)) h i (scanLen f q s) s
 run-bind (last b ws p) h i [] = run-bind p h i []
 run-bind (last b ws p) h i (x ∷ s) = go (eqb x b && not (isWord x)) refl (run-bind p h i (x ∷ s))
   where

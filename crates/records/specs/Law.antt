@@ -31,9 +31,10 @@ closes-lt e xs h = go (leb (length xs) e) refl
     bad : (s : List ℕ) → s ≡ [] → closes s ≡ true → _≡_ {A = Bool} false true
     bad [] q h = h
     bad (x ∷ s) q h = cc
+
     go : (b : Bool) → leb (length xs) e ≡ b → e < length xs
     go true p = let z : _≡_ {A = Bool} false true = bad (drop e xs) (drop-of-length-le xs (leb-true (length xs) e p)) h in
-      let z2 : _≡_ {A = ℕ} 0 1 = cc in omega arith
+        let z2 : _≡_ {A = ℕ} 0 1 = cc in omega arith
     go false p = leb-false (length xs) e p
 
 -- The common prefix.
@@ -96,16 +97,23 @@ ends-same (suc i) (suc j) (suc d) xs ys a b h = go (eqb (getD xs i 0) (getD ys j
   where
     go : (t : Bool) → eqb (getD xs i 0) (getD ys j 0) ≡ t → (d ≤ commonEnd i j xs ys → drop (i - d) (take i xs) ≡ drop (j - d) (take j ys)) → drop (suc i - suc d) (take (suc i) xs) ≡ drop (suc j - suc d) (take (suc j) ys)
     go true p ih =
-      let a2 : i ≤ length xs = omega arith in
-      let b2 : j ≤ length ys = omega arith in
-      let k : suc d ≤ suc (commonEnd i j xs ys) = rw (p, commonEnd) at h in
-      let x : getD xs i 0 ≡ getD ys j 0 = eqb-true (getD xs i 0) (getD ys j 0) p in
-      let li : length (take i xs) ≡ i = length-take-le i xs a2 in
-      let lj : length (take j ys) ≡ j = length-take-le j ys b2 in
-      let m : drop (i - d) (take i xs) ≡ drop (j - d) (take j ys) = ih (omega arith) in
-      rw (suc-sub-suc i d, suc-sub-suc j d, take-suc xs i 0 a, take-suc ys j 0 b,
+        let a2 : i ≤ length xs = omega arith in
+        let b2 : j ≤ length ys = omega arith in
+        let k : suc d ≤ suc (commonEnd i j xs ys) = rw (p, commonEnd) at h in
+        let x : getD xs i 0 ≡ getD ys j 0 = eqb-true (getD xs i 0) (getD ys j 0) p in
+        let li : length (take i xs) ≡ i = length-take-le i xs a2 in
+        let lj : length (take j ys) ≡ j = length-take-le j ys b2 in
+        let m : drop (i - d) (take i xs) ≡ drop (j - d) (take j ys) = ih (omega arith) in
+        rw (
+          suc-sub-suc i d,
+          suc-sub-suc j d,
+          take-suc xs i 0 a,
+          take-suc ys j 0 b,
           drop-append-le (i - d) (take i xs) (getD xs i 0 ∷ []) (omega arith),
-          drop-append-le (j - d) (take j ys) (getD ys j 0 ∷ []) (omega arith), x, m)
+          drop-append-le (j - d) (take j ys) (getD ys j 0 ∷ []) (omega arith),
+          x,
+          m,
+        )
     go false p ih = let k : suc d ≤ 0 = rw (p, commonEnd) at h in absurd (omega arith)
 
 common-le-older : (xs ys : List ℕ) → length (common xs ys) ≤ length xs
@@ -117,22 +125,22 @@ common-le-newer xs ys = omega (arith, ap length (common-newer xs ys), length-app
 endOf-older : (older newer : List ℕ) (d : ℕ) → d ≤ endOf older newer → drop (length older - d) older ≡ drop (length newer - d) newer
 unfolding endOf
 endOf-older older newer d h =
-  let a : ℕ = length (common older newer) in
-  let O : List ℕ = drop a older in
-  let N : List ℕ = drop a newer in
-  let i : ℕ = length older - a in
-  let j : ℕ = length newer - a in
-  let lO : length O ≡ i = length-drop a older in
-  let lN : length N ≡ j = length-drop a newer in
-  let di : d ≤ i = omega (arith, commonEnd-left i j O N) in
-  let dj : d ≤ j = omega (arith, commonEnd-right i j O N) in
-  let e : drop (i - d) (take i O) ≡ drop (j - d) (take j N) = ends-same i j d O N (omega arith) (omega arith) h in
-  let e2 : drop (i - d) O ≡ drop (j - d) N = rw (take-all i O (omega arith), take-all j N (omega arith)) at e in
-  let fO : a ≤ length older = common-le-older older newer in
-  let fN : a ≤ length newer = common-le-newer older newer in
-  let sO : length older - d ≡ a + (i - d) = omega arith in
-  let sN : length newer - d ≡ a + (j - d) = omega arith in
-  ap (λ (n : ℕ). drop n older) sO ∙ sym (drop-drop (i - d) a older) ∙ e2 ∙ drop-drop (j - d) a newer ∙ ap (λ (n : ℕ). drop n newer) (sym sN)
+    let a : ℕ = length (common older newer) in
+    let O : List ℕ = drop a older in
+    let N : List ℕ = drop a newer in
+    let i : ℕ = length older - a in
+    let j : ℕ = length newer - a in
+    let lO : length O ≡ i = length-drop a older in
+    let lN : length N ≡ j = length-drop a newer in
+    let di : d ≤ i = omega (arith, commonEnd-left i j O N) in
+    let dj : d ≤ j = omega (arith, commonEnd-right i j O N) in
+    let e : drop (i - d) (take i O) ≡ drop (j - d) (take j N) = ends-same i j d O N (omega arith) (omega arith) h in
+    let e2 : drop (i - d) O ≡ drop (j - d) N = rw (take-all i O (omega arith), take-all j N (omega arith)) at e in
+    let fO : a ≤ length older = common-le-older older newer in
+    let fN : a ≤ length newer = common-le-newer older newer in
+    let sO : length older - d ≡ a + (i - d) = omega arith in
+    let sN : length newer - d ≡ a + (j - d) = omega arith in
+    ap (λ (n : ℕ). drop n older) sO ∙ sym (drop-drop (i - d) a older) ∙ e2 ∙ drop-drop (j - d) a newer ∙ ap (λ (n : ℕ). drop n newer) (sym sN)
 
 -- What is left of a text is its end of that length.
 suffix : (p : ℕ) (l : List ℕ) → drop p l ≡ drop (length l - length (drop p l)) l
@@ -140,9 +148,9 @@ suffix p l = go (leb p (length l)) refl
   where
     go : (b : Bool) → leb p (length l) ≡ b → drop p l ≡ drop (length l - length (drop p l)) l
     go true t = let q : p ≤ length l = leb-true p (length l) t in let r : length (drop p l) ≡ length l - p = length-drop p l in
-      let z : length l - length (drop p l) ≡ p = omega arith in ap (λ (n : ℕ). drop n l) (sym z)
+        let z : length l - length (drop p l) ≡ p = omega arith in ap (λ (n : ℕ). drop n l) (sym z)
     go false t = let q : length l < p = leb-false p (length l) t in let r : length (drop p l) ≡ length l - p = length-drop p l in
-      drop-past p (length l - length (drop p l)) l (omega arith) (omega arith)
+        drop-past p (length l - length (drop p l)) l (omega arith) (omega arith)
 
 module _ (headAt : List ℕ → HeadRead) (blockAt : List ℕ → BlockRead) (G : Grammar headAt blockAt) where
   -- Fuel past the suffix's length makes no difference.
@@ -153,22 +161,22 @@ module _ (headAt : List ℕ → HeadRead) (blockAt : List ℕ → BlockRead) (G 
   fuel (suc n) (suc m) s h k = go (blockAt s) refl (λ e. fuel n m (drop e s))
     where
       go : (b : BlockRead) → blockAt s ≡ b → ((e : ℕ) → length (drop e s) < n → length (drop e s) < m → blocksIn headAt blockAt n (drop e s) ≡ blocksIn headAt blockAt m (drop e s))
-        → blocksIn headAt blockAt (suc n) s ≡ blocksIn headAt blockAt (suc m) s
+          → blocksIn headAt blockAt (suc n) s ≡ blocksIn headAt blockAt (suc m) s
       go (block e ws) p ih =
-        let a : 1 ≤ e = G .block-moves s e ws p in
-        let b : e ≤ length s = G .block-fits s e ws p in
-        let c : length (drop e s) ≡ length s - e = length-drop e s in
-        rw (p, blocksIn) (ap (item e ws) (ih e (omega arith) (omega arith)))
+          let a : 1 ≤ e = G .block-moves s e ws p in
+          let b : e ≤ length s = G .block-fits s e ws p in
+          let c : length (drop e s) ≡ length s - e = length-drop e s in
+          rw (p, blocksIn) (ap (item e ws) (ih e (omega arith) (omega arith)))
       go (tail e) p ih = rw (p, blocksIn)
       go (badBlock q x) p ih = rw (p, blocksIn)
 
   pub blocks-block : (s : List ℕ) (e : ℕ) (ws : List ℕ) → blockAt s ≡ block e ws → blocks headAt blockAt s ≡ item e ws (blocks headAt blockAt (drop e s))
   unfolding blocks blocksIn
   blocks-block s e ws p =
-    let a : 1 ≤ e = G .block-moves s e ws p in
-    let b : e ≤ length s = G .block-fits s e ws p in
-    let c : length (drop e s) ≡ length s - e = length-drop e s in
-    rw (p, blocksIn) (ap (item e ws) (fuel (length s) (suc (length (drop e s))) (drop e s) (omega arith) (omega arith)))
+      let a : 1 ≤ e = G .block-moves s e ws p in
+      let b : e ≤ length s = G .block-fits s e ws p in
+      let c : length (drop e s) ≡ length s - e = length-drop e s in
+      rw (p, blocksIn) (ap (item e ws) (fuel (length s) (suc (length (drop e s))) (drop e s) (omega arith) (omega arith)))
 
   pub blocks-tail : (s : List ℕ) (e : ℕ) → blockAt s ≡ tail e → blocks headAt blockAt s ≡ item e [] done
   unfolding blocks blocksIn
@@ -208,16 +216,16 @@ module _ (headAt : List ℕ → HeadRead) (blockAt : List ℕ → BlockRead) (G 
       where
         go : (b : BlockRead) → blockAt s ≡ b → OldStep s e f n os
         go (block e2 ws) p =
-          let w : item e (g (kept f n)) (mapRun g (before os done)) ≡ item e2 (h ws) (mapRun h (blocks headAt blockAt (drop e2 s))) = rw (blocks-block s e2 ws p) at i in
-          let q : e2 ≡ e = cc in
-          isBlock ws (rw q at p) (cc) (rw (← q) (cc))
+            let w : item e (g (kept f n)) (mapRun g (before os done)) ≡ item e2 (h ws) (mapRun h (blocks headAt blockAt (drop e2 s))) = rw (blocks-block s e2 ws p) at i in
+            let q : e2 ≡ e = cc in
+            isBlock ws (rw q at p) (cc) (rw (← q) (cc))
         go (tail e2) p =
-          let w : item e (g (kept f n)) (mapRun g (before os done)) ≡ item e2 (h []) done = rw (blocks-tail s e2 p) at i in
-          let q : e2 ≡ e = cc in
-          isTail (rw q at p) (cc) (before-done os (cc))
+            let w : item e (g (kept f n)) (mapRun g (before os done)) ≡ item e2 (h []) done = rw (blocks-tail s e2 p) at i in
+            let q : e2 ≡ e = cc in
+            isTail (rw q at p) (cc) (before-done os (cc))
         go (badBlock a x) p =
-          let w : item e (g (kept f n)) (mapRun g (before os done)) ≡ stop a x = rw (blocks-bad s a x p) at i in
-          let z : _≡_ {A = ℕ} 0 1 = cc in absurd (omega arith)
+            let w : item e (g (kept f n)) (mapRun g (before os done)) ≡ stop a x = rw (blocks-bad s a x p) at i in
+            let z : _≡_ {A = ℕ} 0 1 = cc in absurd (omega arith)
 
     not-bad : (s : List ℕ) (o : Old) (os : List Old) → IsOld (o ∷ os) s → (q p : ℕ) → blockAt s ≡ badBlock q p → ⊥
     not-bad s (old e f n) os i q x p = go (oldStep s e f n os i)
@@ -247,7 +255,7 @@ module _ (headAt : List ℕ → HeadRead) (blockAt : List ℕ → BlockRead) (G 
     front-cons : (e f n : ℕ) (os : List Old) (k : ℕ) (ws s : List ℕ) → blockAt s ≡ block e ws → g (kept f n) ≡ h ws → FrontIs os k (drop e s) → FrontIs (old e f n ∷ os) (suc k) s
     unfolding beforeB oldSizes mapRun
     front-cons e f n os k ws s p q (some-left l r) =
-      some-left (omega arith) (rw (blocks-block s e ws p, ← q) (rw (← drop-drop (oldSizes (take k os)) e s) (ap (item e (g (kept f n))) r)))
+        some-left (omega arith) (rw (blocks-block s e ws p, ← q) (rw (← drop-drop (oldSizes (take k os)) e s) (ap (item e (g (kept f n))) r)))
     front-cons e f n os k ws s p q (all-kept l r) = all-kept (omega arith) (rw (blocks-block s e ws p, ← q) (ap (item e (g (kept f n))) r))
 
     front : (X ys zs : List ℕ) (os : List Old) → IsOld os (X ++ ys) → FrontIs os (keptRest X os) (X ++ zs)
@@ -270,11 +278,11 @@ module _ (headAt : List ℕ → HeadRead) (blockAt : List ℕ → BlockRead) (G 
           where
             go : (b : Bool) → closes (drop e X) ≡ b → FrontIs (old e f n ∷ o ∷ os) (keptRest X (old e f n ∷ o ∷ os)) (X ++ zs)
             go true t =
-              let l : e < length X = closes-lt e X t in
-              let l2 : e ≤ length X = omega arith in
-              rw (t, keptRest)
+                let l : e < length X = closes-lt e X t in
+                let l2 : e ≤ length X = omega arith in
+                rw (t, keptRest)
                 (front-cons e f n (o ∷ os) (keptRest (drop e X) (o ∷ os)) ws (X ++ zs) (G .block-local X ys zs e ws p (not-bad (drop e (X ++ ys)) o os j) t) q
-                  (rw (drop-append-le e X zs) (ih (rw (drop-append-le e X ys) at j))))
+                (rw (drop-append-le e X zs) (ih (rw (drop-append-le e X ys) at j))))
             go false t = rw (t, keptRest) (front-none (old e f n) (o ∷ os) (X ++ zs))
 
     -- Of old pieces that are what the older text has from `pos` on, those from `target` on are what it has from there.
@@ -285,14 +293,15 @@ module _ (headAt : List ℕ → HeadRead) (blockAt : List ℕ → BlockRead) (G 
       where
         go : (b : Bool) → eqb pos target ≡ b → (from target (pos + e) os ≡ some ps → IsOld os (drop (pos + e) older) → IsOld ps (drop target older)) → IsOld ps (drop target older)
         go true t ih =
-          let r : some (old e f n ∷ os) ≡ some ps = rw (t, from) at q in
-          let u : old e f n ∷ os ≡ ps = cc in
-          let v : pos ≡ target = eqb-true pos target t in
-          rw (← u, ← v) i
+            let r : some (old e f n ∷ os) ≡ some ps = rw (t, from) at q in
+            let u : old e f n ∷ os ≡ ps = cc in
+            let v : pos ≡ target = eqb-true pos target t in
+            rw (← u, ← v) i
         go false t ih = step (oldStep (drop pos older) e f n os i)
           where
             r : from target (pos + e) os ≡ some ps
             r = rw (t, from) at q
+
             step : OldStep (drop pos older) e f n os → IsOld ps (drop target older)
             step (isBlock ws p k j) = ih r (rw (drop-drop e pos older) at j)
             step (isTail p k z) = let w : from target (pos + e) [] ≡ some ps = rw z at r in let y : _≡_ {A = ℕ} 0 1 = cc in absurd (omega arith)
@@ -305,42 +314,49 @@ module _ (headAt : List ℕ → HeadRead) (blockAt : List ℕ → BlockRead) (G 
           go : (b : Bool) → leb (length (drop p newer)) (endOf older newer) ≡ b → IsOld ps (drop p newer)
           go false t = let w : none ≡ some ps = rw (t, joins) at q in let z : _≡_ {A = ℕ} 0 1 = cc in absurd (omega arith)
           go true t =
-            let w : from (length older - length (drop p newer)) e₀ os ≡ some ps = rw (t, joins) at q in
-            let same : drop (length older - length (drop p newer)) older ≡ drop (length newer - length (drop p newer)) newer =
-                  endOf-older older newer (length (drop p newer)) (leb-true (length (drop p newer)) (endOf older newer) t) in
-            let r : IsOld ps (drop (length older - length (drop p newer)) older) = from-is older (length older - length (drop p newer)) e₀ os ps w io in
-            rw (suffix p newer, ← same) r
+              let w : from (length older - length (drop p newer)) e₀ os ≡ some ps = rw (t, joins) at q in
+              let same : drop (length older - length (drop p newer)) older ≡ drop (length newer - length (drop p newer)) newer =
+              endOf-older older newer (length (drop p newer)) (leb-true (length (drop p newer)) (endOf older newer) t) in
+              let r : IsOld ps (drop (length older - length (drop p newer)) older) = from-is older (length older - length (drop p newer)) e₀ os ps w io in
+              rw (suffix p newer, ← same) r
 
       -- Reading on, with old pieces joined behind, is reading on.
       againIn-is : (n p : ℕ) → length (drop p newer) < n
-        → mapRun g (againIn headAt blockAt (endOf older newer) (length older) (old e₀ f₀ n₀ ∷ os) n (drop p newer)) ≡ mapRun h (blocks headAt blockAt (drop p newer))
+          → mapRun g (againIn headAt blockAt (endOf older newer) (length older) (old e₀ f₀ n₀ ∷ os) n (drop p newer)) ≡ mapRun h (blocks headAt blockAt (drop p newer))
       unfolding againIn mapRun IsOld
       againIn-is zero p l = absurd (omega arith)
       againIn-is (suc n) p l = go (blockAt (drop p newer)) refl (λ e. againIn-is n (p + e))
         where
           O : List Old
           O = old e₀ f₀ n₀ ∷ os
+
           c : ℕ
           c = endOf older newer
+
           s : List ℕ
           s = drop p newer
+
           go : (b : BlockRead) → blockAt s ≡ b
-            → ((e : ℕ) → length (drop (p + e) newer) < n → mapRun g (againIn headAt blockAt c (length older) O n (drop (p + e) newer)) ≡ mapRun h (blocks headAt blockAt (drop (p + e) newer)))
-            → mapRun g (againIn headAt blockAt c (length older) O (suc n) s) ≡ mapRun h (blocks headAt blockAt s)
+              → ((e : ℕ) → length (drop (p + e) newer) < n → mapRun g (againIn headAt blockAt c (length older) O n (drop (p + e) newer)) ≡ mapRun h (blocks headAt blockAt (drop (p + e) newer)))
+              → mapRun g (againIn headAt blockAt c (length older) O (suc n) s) ≡ mapRun h (blocks headAt blockAt s)
           go (tail e) q ih = rw (q, againIn, blocks-tail s e q, gh [])
           go (badBlock a x) q ih = rw (q, againIn, blocks-bad s a x q)
           go (block e ws) q ih = rw (q, againIn, blocks-block s e ws q, gh ws) (ap (item e (h ws)) (go2 (joins c (length older) O (drop e s)) refl))
             where
               m1 : 1 ≤ e
               m1 = G .block-moves s e ws q
+
               m2 : e ≤ length s
               m2 = G .block-fits s e ws q
+
               dd : drop e s ≡ drop (p + e) newer
               dd = drop-drop e p newer
+
               less : length (drop (p + e) newer) < n
               less = let l1 : length (drop e s) ≡ length s - e = length-drop e s in let l2 : length (drop e s) ≡ length (drop (p + e) newer) = ap length dd in omega (arith, m1, m2)
+
               go2 : (j : Option (List Old)) → joins c (length older) O (drop e s) ≡ j
-                → mapRun g (elim j [ some ps ↦ before ps done | none ↦ againIn headAt blockAt c (length older) O n (drop e s) ]) ≡ mapRun h (blocks headAt blockAt (drop e s))
+                  → mapRun g (elim j [ some ps ↦ before ps done | none ↦ againIn headAt blockAt c (length older) O n (drop e s) ]) ≡ mapRun h (blocks headAt blockAt (drop e s))
               go2 none t = rw dd (ih e less)
               go2 (some ps) t = rw dd (joins-is (p + e) ps (rw dd at t))
 
@@ -368,12 +384,12 @@ module _ (headAt : List ℕ → HeadRead) (blockAt : List ℕ → BlockRead) (G 
       where
         go : (b : HeadRead) → headAt s ≡ b → HeadStep s e f n os
         go (head e2 ws) p =
-          let w : item e (g (kept f n)) (mapRun g (before os done)) ≡ item e2 (h ws) (mapRun h (blocks headAt blockAt (drop e2 s))) = rw (p, reading) at i in
-          let q : e2 ≡ e = cc in
-          record { ws = ws; reads = rw q at p; same = cc; others = rw (← q) (cc) }
+            let w : item e (g (kept f n)) (mapRun g (before os done)) ≡ item e2 (h ws) (mapRun h (blocks headAt blockAt (drop e2 s))) = rw (p, reading) at i in
+            let q : e2 ≡ e = cc in
+            record { ws = ws; reads = rw q at p; same = cc; others = rw (← q) (cc) }
         go (badHead a x) p =
-          let w : item e (g (kept f n)) (mapRun g (before os done)) ≡ stop a x = rw (p, reading) at i in
-          let z : _≡_ {A = ℕ} 0 1 = cc in absurd (omega arith)
+            let w : item e (g (kept f n)) (mapRun g (before os done)) ≡ stop a x = rw (p, reading) at i in
+            let z : _≡_ {A = ℕ} 0 1 = cc in absurd (omega arith)
 
     module _ (older newer : List ℕ) (e₀ f₀ n₀ : ℕ) (os : List Old) (io : IsReading (old e₀ f₀ n₀ ∷ os) older) where
       others₀ : IsOld os (drop e₀ older)
@@ -390,57 +406,63 @@ module _ (headAt : List ℕ → HeadRead) (blockAt : List ℕ → BlockRead) (G 
         where
           O : List Old
           O = old e₀ f₀ n₀ ∷ os
+
           c : ℕ
           c = endOf older newer
+
           go : (b : HeadRead) → headAt newer ≡ b → mapRun g (behindFront headAt blockAt c (length older) O 0 newer) ≡ mapRun h (reading headAt blockAt newer)
           go (badHead q x) t = rw (t, behindFront, reading)
           go (head e ws) t = rw (t, behindFront, reading, gh ws) (ap (item e (h ws)) (go2 (joins c (length older) O (drop e newer)) refl))
             where
               go2 : (j : Option (List Old)) → joins c (length older) O (drop e newer) ≡ j
-                → mapRun g (elim j [ some ps ↦ before ps done | none ↦ again headAt blockAt c (length older) O (drop e newer) ]) ≡ mapRun h (blocks headAt blockAt (drop e newer))
+                  → mapRun g (elim j [ some ps ↦ before ps done | none ↦ again headAt blockAt c (length older) O (drop e newer) ]) ≡ mapRun h (blocks headAt blockAt (drop e newer))
               go2 none u = again-is e
               go2 (some ps) u = joins-is older newer e₀ f₀ n₀ os others₀ e ps u
 
       -- Some are: reading goes on behind them.
       from-front : (k : ℕ) → headAt newer ≡ head e₀ (headStep older e₀ f₀ n₀ os io .ws) → FrontIs os k (drop e₀ newer)
-        → mapRun g (before (take (suc k) (old e₀ f₀ n₀ ∷ os)) (behindFront headAt blockAt (endOf older newer) (length older) (old e₀ f₀ n₀ ∷ os) (suc k) newer)) ≡ mapRun h (reading headAt blockAt newer)
+          → mapRun g (before (take (suc k) (old e₀ f₀ n₀ ∷ os)) (behindFront headAt blockAt (endOf older newer) (length older) (old e₀ f₀ n₀ ∷ os) (suc k) newer)) ≡ mapRun h (reading headAt blockAt newer)
       unfolding behindFront reading mapRun before oldSizes
       from-front k t (some-left l r) =
-        let u : ltb (suc k) (suc (length os)) ≡ true = lt-ltb (suc k) (suc (length os)) (omega arith) in
-        rw (u, behindFront, t, reading, ← headStep older e₀ f₀ n₀ os io .same)
+          let u : ltb (suc k) (suc (length os)) ≡ true = lt-ltb (suc k) (suc (length os)) (omega arith) in
+          rw (u, behindFront, t, reading, ← headStep older e₀ f₀ n₀ os io .same)
           (ap (item e₀ (g (kept f₀ n₀)))
-            (before-map (take k os) (again headAt blockAt (endOf older newer) (length older) (old e₀ f₀ n₀ ∷ os) (drop (e₀ + oldSizes (take k os)) newer))
-              ∙ ap (beforeB (take k os)) (again-is (e₀ + oldSizes (take k os)) ∙ ap (λ (s : List ℕ). mapRun h (blocks headAt blockAt s)) (sym (drop-drop (oldSizes (take k os)) e₀ newer)))
-              ∙ sym r))
+          (before-map (take k os) (again headAt blockAt (endOf older newer) (length older) (old e₀ f₀ n₀ ∷ os) (drop (e₀ + oldSizes (take k os)) newer))
+          ∙ ap (beforeB (take k os)) (again-is (e₀ + oldSizes (take k os)) ∙ ap (λ (s : List ℕ). mapRun h (blocks headAt blockAt s)) (sym (drop-drop (oldSizes (take k os)) e₀ newer)))
+          ∙ sym r))
       from-front k t (all-kept l r) =
-        let u : ltb (suc k) (suc (length os)) ≡ false = le-ltb (suc k) (suc (length os)) (omega arith) in
-        rw (u, behindFront, t, reading, ← headStep older e₀ f₀ n₀ os io .same)
+          let u : ltb (suc k) (suc (length os)) ≡ false = le-ltb (suc k) (suc (length os)) (omega arith) in
+          rw (u, behindFront, t, reading, ← headStep older e₀ f₀ n₀ os io .same)
           (ap (item e₀ (g (kept f₀ n₀))) (before-map (take k os) done ∙ sym r))
 
     pub core : (older newer : List ℕ) (os : List Old) → IsReading os older
-      → mapRun g (before (take (keeps headAt blockAt older newer os) os) (rest headAt blockAt older newer os)) ≡ mapRun h (reading headAt blockAt newer)
+        → mapRun g (before (take (keeps headAt blockAt older newer os) os) (rest headAt blockAt older newer os)) ≡ mapRun h (reading headAt blockAt newer)
     unfolding keeps rest keptFront before
     core older newer [] i = absurd (no-reading older i)
     core older newer (old e f n ∷ os) i = go (ltb e (length (common older newer))) refl
       where
         X : List ℕ
         X = common older newer
+
         ys : List ℕ
         ys = drop (length X) older
+
         zs : List ℕ
         zs = drop (length X) newer
+
         P : ℕ → Type 0
         P k = mapRun g (before (take k (old e f n ∷ os)) (behindFront headAt blockAt (endOf older newer) (length older) (old e f n ∷ os) k newer)) ≡ mapRun h (reading headAt blockAt newer)
+
         go : (b : Bool) → ltb e (length X) ≡ b → P (keptFront X (old e f n ∷ os))
         go false t = rw (t, keptFront) (from-head older newer e f n os i)
         go true t =
-          let l : e < length X = ltb-true e (length X) t in
-          let l2 : e ≤ length X = omega arith in
-          let hd : headAt older ≡ head e (headStep older e f n os i .ws) = headStep older e f n os i .reads in
-          let hn : headAt newer ≡ head e (headStep older e f n os i .ws) =
-                subst (λ s. headAt s ≡ head e (headStep older e f n os i .ws)) (sym (common-newer older newer))
-                  (G .head-local X ys zs e (headStep older e f n os i .ws) (subst (λ s. headAt s ≡ head e (headStep older e f n os i .ws)) (common-older older newer) hd) l) in
-          let eo : drop e older ≡ drop e X ++ ys = ap (drop e) (common-older older newer) ∙ drop-append-le e X ys l2 in
-          let en : drop e newer ≡ drop e X ++ zs = ap (drop e) (common-newer older newer) ∙ drop-append-le e X zs l2 in
-          let io : IsOld os (drop e X ++ ys) = rw eo at (headStep older e f n os i .others) in
-          rw (t, keptFront) (from-front older newer e f n os i (keptRest (drop e X) os) hn (rw en (front (drop e X) ys zs os io)))
+            let l : e < length X = ltb-true e (length X) t in
+            let l2 : e ≤ length X = omega arith in
+            let hd : headAt older ≡ head e (headStep older e f n os i .ws) = headStep older e f n os i .reads in
+            let hn : headAt newer ≡ head e (headStep older e f n os i .ws) =
+            subst (λ s. headAt s ≡ head e (headStep older e f n os i .ws)) (sym (common-newer older newer))
+            (G .head-local X ys zs e (headStep older e f n os i .ws) (subst (λ s. headAt s ≡ head e (headStep older e f n os i .ws)) (common-older older newer) hd) l) in
+            let eo : drop e older ≡ drop e X ++ ys = ap (drop e) (common-older older newer) ∙ drop-append-le e X ys l2 in
+            let en : drop e newer ≡ drop e X ++ zs = ap (drop e) (common-newer older newer) ∙ drop-append-le e X zs l2 in
+            let io : IsOld os (drop e X ++ ys) = rw eo at (headStep older e f n os i .others) in
+            rw (t, keptFront) (from-front older newer e f n os i (keptRest (drop e X) os) hn (rw en (front (drop e X) ys zs os io)))

@@ -3,3 +3,5 @@ pub mod Pieces
 pub mod Law
 pub mod Same
 pub mod Piece
+pub mod Edits
+pub mod Older

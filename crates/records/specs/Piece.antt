@@ -64,5 +64,5 @@ module _ (headP blockP : Prog (List ℕ)) (moves : (s : List ℕ) (e : ℕ) (ws 
     tail-fits = λ s e h. omega (arith, closed-range blockP 0 e s (tail-is (run blockP 0 s) e h .0) (tail-is (run blockP 0 s) e h .1) .1);
     head-local = λ xs ys zs e ws h l. ap headOf (closed-local headP xs ys zs e ws (head-is (run headP 0 (xs ++ ys)) e ws h) (omega arith)) ∙ h;
     block-local = λ xs ys zs e ws h a c. ap blockOf (block-local xs ys zs e ws (block-is (run blockP 0 (xs ++ ys)) e ws h) c) ∙ h;
-    tail-local = λ xs ys zs e h l. ap blockOf (closed-local blockP xs ys zs e (tail-is (run blockP 0 (xs ++ ys)) e h .0) (tail-is (run blockP 0 (xs ++ ys)) e h .1) (omega arith)) ∙ h }
-
+    tail-local = λ xs ys zs e h l. ap blockOf (closed-local blockP xs ys zs e (tail-is (run blockP 0 (xs ++ ys)) e h .0) (tail-is (run blockP 0 (xs ++ ys)) e h .1) (omega arith)) ∙ h;
+  }

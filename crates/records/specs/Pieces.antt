@@ -13,8 +13,8 @@ use Rattle.records.specs.Words.{pack}
 
 -- What reading at the start of a suffix of the text gives.
 pub data HeadRead : Type 0 where
-  head : ℕ → List ℕ → HeadRead           -- length, words
-  badHead : ℕ → ℕ → HeadRead             -- number, place from the suffix's start
+  head : ℕ → List ℕ → HeadRead  -- length, words
+  badHead : ℕ → ℕ → HeadRead  -- number, place from the suffix's start
 
 pub data BlockRead : Type 0 where
   block : ℕ → List ℕ → BlockRead
@@ -24,7 +24,7 @@ pub data BlockRead : Type 0 where
 -- Pieces in order, each a length and something (its words, their number, or where they come from), and how they end.
 pub data Run (A : Type 0) : Type 0 where
   done : Run A
-  stop : ℕ → ℕ → Run A                   -- number, place from the end of the last piece
+  stop : ℕ → ℕ → Run A  -- number, place from the end of the last piece
   item : ℕ → A → Run A → Run A
 
 unfoldable pub mapRun : {A B : Type 0} → (A → B) → Run A → Run B
@@ -50,9 +50,10 @@ unfoldable pub judge : (words dir i pos at : ℕ) → Run ℕ → Verdict
 judge words dir i pos at done = fine
 judge words dir i pos at (stop q p) = refused q (pos + p)
 judge words dir i pos at (item e n r) =
-  elim (leb (at + n) words && ltb (at + n) 4294967296)
-    [ true ↦ elim (leb (i * 2 + 2) dir) [ true ↦ judge words dir (suc i) (pos + e) (at + n) r | false ↦ refused 21 (pos + e) ]
-    | false ↦ refused 20 (pos + e) ]
+    elim (leb (at + n) words && ltb (at + n) 4294967296) [
+      | true ↦ elim (leb (i * 2 + 2) dir) [ true ↦ judge words dir (suc i) (pos + e) (at + n) r | false ↦ refused 21 (pos + e) ]
+      | false ↦ refused 20 (pos + e)
+    ]
 
 -- The arrays that a list of pieces leaves.
 unfoldable pub pad : ℕ → List ℕ → List ℕ
@@ -75,8 +76,8 @@ countRun (item e a r) = suc (countRun r)
 
 -- What a call leaves: both arrays whole, and the answer. A refusal leaves zeros.
 pub data Answer : Type 0 where
-  no-at : ℕ → ℕ → Answer                  -- number, place
-  count : ℕ → Answer                      -- entry count
+  no-at : ℕ → ℕ → Answer  -- number, place
+  count : ℕ → Answer  -- entry count
 
 pub data Left : Type 0 where
   left : Answer → List ℕ → List ℕ → Left  -- answer, words, directory
@@ -103,9 +104,10 @@ chain text words zero pos at dir = some []
 chain text words (suc n) pos at [] = none
 chain text words (suc n) pos at (x ∷ []) = none
 chain text words (suc n) pos at (x ∷ y ∷ dir) =
-  elim (eqb (x / 4294967296) pos && eqb (y / 4294967296) at && leb (pos + x % 4294967296) text && leb (at + y % 4294967296) words)
-    [ true ↦ consOld (old (x % 4294967296) at (y % 4294967296)) (chain text words n (pos + x % 4294967296) (at + y % 4294967296) dir)
-    | false ↦ none ]
+    elim (eqb (x / 4294967296) pos && eqb (y / 4294967296) at && leb (pos + x % 4294967296) text && leb (at + y % 4294967296) words) [
+      | true ↦ consOld (old (x % 4294967296) at (y % 4294967296)) (chain text words n (pos + x % 4294967296) (at + y % 4294967296) dir)
+      | false ↦ none
+    ]
 
 unfoldable pub olds : (text words n : ℕ) → List ℕ → Option (List Old)
 olds text words n dir = elim (leb 2 n) [ true ↦ chain text words n 0 0 dir | false ↦ none ]
@@ -148,7 +150,7 @@ keptFront s (old e f n ∷ os) = elim (ltb e (length s)) [ true ↦ suc (keptRes
 -- Where the words of a piece come from.
 pub data Source : Type 0 where
   fresh : List ℕ → Source
-  kept : ℕ → ℕ → Source                   -- first word, number of words, before the call
+  kept : ℕ → ℕ → Source  -- first word, number of words, before the call
 
 unfoldable pub size : Source → ℕ
 size (fresh ws) = length ws
@@ -196,7 +198,7 @@ joins c olen os s = elim (leb (length s) c) [ true ↦ fromBlocks (olen - length
 
 unfoldable pub endOf : (older newer : List ℕ) → ℕ
 endOf older newer =
-  commonEnd (length older - length (common older newer)) (length newer - length (common older newer))
+    commonEnd (length older - length (common older newer)) (length newer - length (common older newer))
     (drop (length (common older newer)) older) (drop (length (common older newer)) newer)
 
 -- What re-reading leaves: arrays and answer, the number of the first piece read, and how many are read.
@@ -215,10 +217,11 @@ module _ (headAt : List ℕ → HeadRead) (blockAt : List ℕ → BlockRead) whe
   unfoldable pub blocksIn : ℕ → List ℕ → Run (List ℕ)
   blocksIn zero s = done
   blocksIn (suc n) s =
-    elim (blockAt s)
-      [ block e ws ↦ item e ws (blocksIn n (drop e s))
-      | tail e ↦ item e [] done
-      | badBlock q p ↦ stop q p ]
+      elim (blockAt s) [
+        | block e ws ↦ item e ws (blocksIn n (drop e s))
+        | tail e ↦ item e [] done
+        | badBlock q p ↦ stop q p
+      ]
 
   unfoldable pub blocks : List ℕ → Run (List ℕ)
   blocks s = blocksIn (suc (length s)) s
@@ -237,10 +240,11 @@ module _ (headAt : List ℕ → HeadRead) (blockAt : List ℕ → BlockRead) whe
   unfoldable pub againIn : (c olen : ℕ) (os : List Old) → ℕ → List ℕ → Run Source
   againIn c olen os zero s = done
   againIn c olen os (suc n) s =
-    elim (blockAt s)
-      [ block e ws ↦ item e (fresh ws) (elim (joins c olen os (drop e s)) [ some ps ↦ before ps done | none ↦ againIn c olen os n (drop e s) ])
-      | tail e ↦ item e (fresh []) done
-      | badBlock q p ↦ stop q p ]
+      elim (blockAt s) [
+        | block e ws ↦ item e (fresh ws) (elim (joins c olen os (drop e s)) [ some ps ↦ before ps done | none ↦ againIn c olen os n (drop e s) ])
+        | tail e ↦ item e (fresh []) done
+        | badBlock q p ↦ stop q p
+      ]
 
   unfoldable pub again : (c olen : ℕ) (os : List Old) → List ℕ → Run Source
   again c olen os s = againIn c olen os (suc (length s)) s
@@ -248,11 +252,12 @@ module _ (headAt : List ℕ → HeadRead) (blockAt : List ℕ → BlockRead) whe
   -- The pieces that are not kept in front. `k`: how many are.
   unfoldable pub behindFront : (c olen : ℕ) (os : List Old) (k : ℕ) → List ℕ → Run Source
   behindFront c olen os zero newer =
-    elim (headAt newer)
-      [ head e ws ↦ item e (fresh ws) (elim (joins c olen os (drop e newer)) [ some ps ↦ before ps done | none ↦ again c olen os (drop e newer) ])
-      | badHead q p ↦ stop q p ]
+      elim (headAt newer) [
+        | head e ws ↦ item e (fresh ws) (elim (joins c olen os (drop e newer)) [ some ps ↦ before ps done | none ↦ again c olen os (drop e newer) ])
+        | badHead q p ↦ stop q p
+      ]
   behindFront c olen os (suc k) newer =
-    elim (ltb (suc k) (length os)) [ true ↦ again c olen os (drop (oldSizes (take (suc k) os)) newer) | false ↦ done ]
+      elim (ltb (suc k) (length os)) [ true ↦ again c olen os (drop (oldSizes (take (suc k) os)) newer) | false ↦ done ]
 
   -- Re-reading, the older directory taken apart. Nothing here sees what the older words hold.
   unfoldable pub keeps : (older newer : List ℕ) → List Old → ℕ
@@ -263,12 +268,12 @@ module _ (headAt : List ℕ → HeadRead) (blockAt : List ℕ → BlockRead) whe
 
   unfoldable pub judgeAgain : (words dir : ℕ) (older newer : List ℕ) → List Old → Verdict
   judgeAgain words dir older newer os =
-    judge words dir (keeps older newer os) (oldSizes (take (keeps older newer os) os)) (oldWords (take (keeps older newer os) os)) (mapRun size (rest older newer os))
+      judge words dir (keeps older newer os) (oldSizes (take (keeps older newer os) os)) (oldWords (take (keeps older newer os) os)) (mapRun size (rest older newer os))
 
   unfoldable pub rereadOf : (words dir : List ℕ) (older newer : List ℕ) → Option (List Old) → Again
   rereadOf words dir older newer none = leaveAgain words (length dir) (andThen (whole newer) (refused 22 0)) 0 done done
   rereadOf words dir older newer (some os) =
-    leaveAgain words (length dir) (andThen (whole newer) (judgeAgain (length words) (length dir) older newer os))
+      leaveAgain words (length dir) (andThen (whole newer) (judgeAgain (length words) (length dir) older newer os))
       (keeps older newer os) (rest older newer os) (before (take (keeps older newer os) os) (rest older newer os))
 
   unfoldable pub reread : (words dir : List ℕ) (n : ℕ) (older newer : List ℕ) → Again

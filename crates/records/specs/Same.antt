@@ -37,10 +37,11 @@ judgeStep W D i pos at e n r = go (leb (at + n) W && ltb (at + n) 4294967296) re
   where
     go2 : (b : Bool) → leb (i * 2 + 2) D ≡ b → (leb (at + n) W && ltb (at + n) 4294967296) ≡ true → JudgeStep W D i pos at e n r (judge W D i pos at (item e n r))
     go2 true q p =
-      let w : leb (at + n) W ≡ true = and-true (leb (at + n) W) (ltb (at + n) 4294967296) p .0 in
-      let s : ltb (at + n) 4294967296 ≡ true = and-true (leb (at + n) W) (ltb (at + n) 4294967296) p .1 in
-      passes (record { words = leb-true (at + n) W w; small = ltb-true (at + n) 4294967296 s; entry = leb-true (i * 2 + 2) D q }) (rw (judge, p, q))
+        let w : leb (at + n) W ≡ true = and-true (leb (at + n) W) (ltb (at + n) 4294967296) p .0 in
+        let s : ltb (at + n) 4294967296 ≡ true = and-true (leb (at + n) W) (ltb (at + n) 4294967296) p .1 in
+        passes (record { words = leb-true (at + n) W w; small = ltb-true (at + n) 4294967296 s; entry = leb-true (i * 2 + 2) D q }) (rw (judge, p, q))
     go2 false q p = fails 21 (pos + e) (rw (judge, p, q))
+
     go : (b : Bool) → (leb (at + n) W && ltb (at + n) 4294967296) ≡ b → JudgeStep W D i pos at e n r (judge W D i pos at (item e n r))
     go true p = go2 (leb (i * 2 + 2) D) refl p
     go false p = fails 20 (pos + e) (rw (judge, p))
@@ -62,22 +63,22 @@ accepts W D i pos at e n r h = go (judgeStep W D i pos at e n r)
 fit-step : (W D i pos at e n : ℕ) (r : Run ℕ) → Fits W D i at n → judge W D i pos at (item e n r) ≡ judge W D (suc i) (pos + e) (at + n) r
 unfolding judge
 fit-step W D i pos at e n r f =
-  let a : leb (at + n) W ≡ true = le-leb (at + n) W (f .words) in
-  let b : ltb (at + n) 4294967296 ≡ true = lt-ltb (at + n) 4294967296 (f .small) in
-  let c : leb (i * 2 + 2) D ≡ true = le-leb (i * 2 + 2) D (f .entry) in
-  rw (judge, a, b, c)
+    let a : leb (at + n) W ≡ true = le-leb (at + n) W (f .words) in
+    let b : ltb (at + n) 4294967296 ≡ true = lt-ltb (at + n) 4294967296 (f .small) in
+    let c : leb (i * 2 + 2) D ≡ true = le-leb (i * 2 + 2) D (f .entry) in
+    rw (judge, a, b, c)
 
 -- What is kept in front of an accepted run needs no question.
 judge-front : (W D i pos at k : ℕ) (os : List Old) (r : Run Source) → k ≤ length os → judge W D i pos at (mapRun size (before os done)) ≡ fine
-  → judge W D i pos at (mapRun size (before (take k os) r)) ≡ judge W D (i + k) (pos + oldSizes (take k os)) (at + oldWords (take k os)) (mapRun size r)
+    → judge W D i pos at (mapRun size (before (take k os) r)) ≡ judge W D (i + k) (pos + oldSizes (take k os)) (at + oldWords (take k os)) (mapRun size r)
 unfolding mapRun before oldSizes oldWords size
 judge-front W D i pos at zero os r l h = rw (add-zero i, add-zero pos, add-zero at)
 judge-front W D i pos at (suc k) [] r l h = absurd (omega arith)
 judge-front W D i pos at (suc k) (old e f n ∷ os) r l h =
-  let a : Accepted W D i pos at e n (mapRun size (before os done)) = accepts W D i pos at e n (mapRun size (before os done)) h in
-  let s : judge W D i pos at (item e n (mapRun size (before (take k os) r))) ≡ judge W D (suc i) (pos + e) (at + n) (mapRun size (before (take k os) r))
-        = fit-step W D i pos at e n (mapRun size (before (take k os) r)) (a .fits) in
-  rw (add-suc i k, ← suc-add i k, ← add-assoc pos e (oldSizes (take k os)), ← add-assoc at n (oldWords (take k os)))
+    let a : Accepted W D i pos at e n (mapRun size (before os done)) = accepts W D i pos at e n (mapRun size (before os done)) h in
+    let s : judge W D i pos at (item e n (mapRun size (before (take k os) r))) ≡ judge W D (suc i) (pos + e) (at + n) (mapRun size (before (take k os) r))
+    = fit-step W D i pos at e n (mapRun size (before (take k os) r)) (a .fits) in
+    rw (add-suc i k, ← suc-add i k, ← add-assoc pos e (oldSizes (take k os)), ← add-assoc at n (oldWords (take k os)))
     (s ∙ judge-front W D (suc i) (pos + e) (at + n) k os r (omega arith) (a .others))
 
 keptRest-le : (s : List ℕ) (os : List Old) → keptRest s os ≤ length os
@@ -119,21 +120,21 @@ unfolding oldsOf mapRun before size judge
 oldsOf-sizes W D i pos at done h = refl
 oldsOf-sizes W D i pos at (stop q p) h = let z : _≡_ {A = ℕ} 0 1 = cc in absurd (omega arith)
 oldsOf-sizes W D i pos at (item e ws r) h =
-  ap (item e (length ws)) (oldsOf-sizes W D (suc i) (pos + e) (at + length ws) r (accepts W D i pos at e (length ws) (mapRun length r) h .others))
+    ap (item e (length ws)) (oldsOf-sizes W D (suc i) (pos + e) (at + length ws) r (accepts W D i pos at e (length ws) (mapRun length r) h .others))
 
 oldsOf-words : (W D i pos at : ℕ) (front zs : List ℕ) (r : Run (List ℕ)) → judge W D i pos at (mapRun length r) ≡ fine → length front ≡ at
-  → mapRun (wordsOf (front ++ (allWords r ++ zs))) (before (oldsOf at r) done) ≡ mapRun (λ ws. ws) r
+    → mapRun (wordsOf (front ++ (allWords r ++ zs))) (before (oldsOf at r) done) ≡ mapRun (λ ws. ws) r
 unfolding oldsOf mapRun before wordsOf judge allWords
 oldsOf-words W D i pos at front zs done h l = refl
 oldsOf-words W D i pos at front zs (stop q p) h l = let z : _≡_ {A = ℕ} 0 1 = cc in absurd (omega arith)
 oldsOf-words W D i pos at front zs (item e ws r) h l =
-  let one : take (length ws) (drop at (front ++ ((ws ++ allWords r) ++ zs))) ≡ ws =
-        rw (drop-at front ((ws ++ allWords r) ++ zs) at l, append-assoc ws (allWords r) zs) (take-append-seam ws (allWords r ++ zs)) in
-  let re : front ++ ((ws ++ allWords r) ++ zs) ≡ (front ++ ws) ++ (allWords r ++ zs) = simp append-assoc in
-  let ih : mapRun (wordsOf ((front ++ ws) ++ (allWords r ++ zs))) (before (oldsOf (at + length ws) r) done) ≡ mapRun (λ ws. ws) r =
-        oldsOf-words W D (suc i) (pos + e) (at + length ws) (front ++ ws) zs r (accepts W D i pos at e (length ws) (mapRun length r) h .others) (length-append front ws ∙ ap (λ (n : ℕ). n + length ws) l) in
-  let ih2 : mapRun (wordsOf (front ++ ((ws ++ allWords r) ++ zs))) (before (oldsOf (at + length ws) r) done) ≡ mapRun (λ ws. ws) r = rw re ih in
-  cc
+    let one : take (length ws) (drop at (front ++ ((ws ++ allWords r) ++ zs))) ≡ ws =
+    rw (drop-at front ((ws ++ allWords r) ++ zs) at l, append-assoc ws (allWords r) zs) (take-append-seam ws (allWords r ++ zs)) in
+    let re : front ++ ((ws ++ allWords r) ++ zs) ≡ (front ++ ws) ++ (allWords r ++ zs) = simp append-assoc in
+    let ih : mapRun (wordsOf ((front ++ ws) ++ (allWords r ++ zs))) (before (oldsOf (at + length ws) r) done) ≡ mapRun (λ ws. ws) r =
+    oldsOf-words W D (suc i) (pos + e) (at + length ws) (front ++ ws) zs r (accepts W D i pos at e (length ws) (mapRun length r) h .others) (length-append front ws ∙ ap (λ (n : ℕ). n + length ws) l) in
+    let ih2 : mapRun (wordsOf (front ++ ((ws ++ allWords r) ++ zs))) (before (oldsOf (at + length ws) r) done) ≡ mapRun (λ ws. ws) r = rw re ih in
+    cc
 
 mapRun-id : (r : Run (List ℕ)) → mapRun (λ ws. ws) r ≡ r
 unfolding mapRun
@@ -147,19 +148,19 @@ unfolding mapRun judge allWords
 words-fit W D i pos at done l h = omega arith
 words-fit W D i pos at (stop q p) l h = omega arith
 words-fit W D i pos at (item e ws r) l h =
-  let a : Accepted W D i pos at e (length ws) (mapRun length r) = accepts W D i pos at e (length ws) (mapRun length r) h in
-  let b : at + length ws + length (allWords r) ≤ W = words-fit W D (suc i) (pos + e) (at + length ws) r (a .fits .words) (a .others) in
-  omega (arith, length-append ws (allWords r))
+    let a : Accepted W D i pos at e (length ws) (mapRun length r) = accepts W D i pos at e (length ws) (mapRun length r) h in
+    let b : at + length ws + length (allWords r) ≤ W = words-fit W D (suc i) (pos + e) (at + length ws) r (a .fits .words) (a .others) in
+    omega (arith, length-append ws (allWords r))
 
 entries-fit : (W D i pos at : ℕ) (r : Run (List ℕ)) → i * 2 ≤ D → judge W D i pos at (mapRun length r) ≡ fine → i * 2 + length (entries pos at r) ≤ D
 unfolding mapRun judge entries
 entries-fit W D i pos at done l h = omega arith
 entries-fit W D i pos at (stop q p) l h = omega arith
 entries-fit W D i pos at (item e ws r) l h =
-  let a : Accepted W D i pos at e (length ws) (mapRun length r) = accepts W D i pos at e (length ws) (mapRun length r) h in
-  let b : i * 2 + 2 ≤ D = a .fits .entry in
-  let c : suc i * 2 + length (entries (pos + e) (at + length ws) r) ≤ D = entries-fit W D (suc i) (pos + e) (at + length ws) r (omega arith) (a .others) in
-  omega arith
+    let a : Accepted W D i pos at e (length ws) (mapRun length r) = accepts W D i pos at e (length ws) (mapRun length r) h in
+    let b : i * 2 + 2 ≤ D = a .fits .entry in
+    let c : suc i * 2 + length (entries (pos + e) (at + length ws) r) ≤ D = entries-fit W D (suc i) (pos + e) (at + length ws) r (omega arith) (a .others) in
+    omega arith
 
 length-pad : (n : ℕ) (xs : List ℕ) → length xs ≤ n → length (pad n xs) ≡ n
 unfolding pad
@@ -167,28 +168,28 @@ length-pad n xs h = length-append xs (replicate (n - length xs) 0) ∙ ap (λ (k
 
 -- The directory, taken apart again.
 chain-entries : (T W D i pos at : ℕ) (zs : List ℕ) (r : Run (List ℕ)) → T < 4294967296 → pos + sizes r ≤ T → judge W D i pos at (mapRun length r) ≡ fine
-  → chain T W (countRun r) pos at (entries pos at r ++ zs) ≡ some (oldsOf at r)
+    → chain T W (countRun r) pos at (entries pos at r ++ zs) ≡ some (oldsOf at r)
 unfolding chain countRun entries oldsOf mapRun judge sizes consOld pack
 chain-entries T W D i pos at zs done t l h = refl
 chain-entries T W D i pos at zs (stop q p) t l h = refl
 chain-entries T W D i pos at zs (item e ws r) t l h =
-  let a : Accepted W D i pos at e (length ws) (mapRun length r) = accepts W D i pos at e (length ws) (mapRun length r) h in
-  let n : ℕ = length ws in
-  let fw : at + n ≤ W = a .fits .words in
-  let fs : at + n < 4294967296 = a .fits .small in
-  let e1 : e < 4294967296 = omega arith in
-  let n1 : n < 4294967296 = omega arith in
-  let dx : (pos * 4294967296 + e) / 4294967296 ≡ pos = digits-div pos e1 in
-  let mx : (pos * 4294967296 + e) % 4294967296 ≡ e = digits-mod pos e1 in
-  let dy : (at * 4294967296 + n) / 4294967296 ≡ at = digits-div at n1 in
-  let my : (at * 4294967296 + n) % 4294967296 ≡ n = digits-mod at n1 in
-  let b1 : eqb pos pos ≡ true = eq-eqb pos pos refl in
-  let b2 : eqb at at ≡ true = eq-eqb at at refl in
-  let b3 : leb (pos + e) T ≡ true = le-leb (pos + e) T (omega arith) in
-  let b4 : leb (at + n) W ≡ true = le-leb (at + n) W fw in
-  let ih : chain T W (countRun r) (pos + e) (at + n) (entries (pos + e) (at + n) r ++ zs) ≡ some (oldsOf (at + n) r) =
-        chain-entries T W D (suc i) (pos + e) (at + n) zs r t (omega arith) (a .others) in
-  rw (chain, dx, mx, dy, my, b1, b2, b3, b4, mx, my, ih)
+    let a : Accepted W D i pos at e (length ws) (mapRun length r) = accepts W D i pos at e (length ws) (mapRun length r) h in
+    let n : ℕ = length ws in
+    let fw : at + n ≤ W = a .fits .words in
+    let fs : at + n < 4294967296 = a .fits .small in
+    let e1 : e < 4294967296 = omega arith in
+    let n1 : n < 4294967296 = omega arith in
+    let dx : (pos * 4294967296 + e) / 4294967296 ≡ pos = digits-div pos e1 in
+    let mx : (pos * 4294967296 + e) % 4294967296 ≡ e = digits-mod pos e1 in
+    let dy : (at * 4294967296 + n) / 4294967296 ≡ at = digits-div at n1 in
+    let my : (at * 4294967296 + n) % 4294967296 ≡ n = digits-mod at n1 in
+    let b1 : eqb pos pos ≡ true = eq-eqb pos pos refl in
+    let b2 : eqb at at ≡ true = eq-eqb at at refl in
+    let b3 : leb (pos + e) T ≡ true = le-leb (pos + e) T (omega arith) in
+    let b4 : leb (at + n) W ≡ true = le-leb (at + n) W fw in
+    let ih : chain T W (countRun r) (pos + e) (at + n) (entries (pos + e) (at + n) r ++ zs) ≡ some (oldsOf (at + n) r) =
+    chain-entries T W D (suc i) (pos + e) (at + n) zs r t (omega arith) (a .others) in
+    rw (chain, dx, mx, dy, my, b1, b2, b3, b4, mx, my, ih)
 
 and-then-fine : (v w : Verdict) → andThen v w ≡ fine → (v ≡ fine) × (w ≡ fine)
 unfolding andThen
@@ -254,59 +255,59 @@ module _ (headAt : List ℕ → HeadRead) (blockAt : List ℕ → BlockRead) (G 
     where
       go : (b : HeadRead) → headAt s ≡ b → 2 ≤ countRun (reading headAt blockAt s)
       go (head e ws) p =
-        let w : judge W D 0 0 0 (item e (length ws) (mapRun length (blocks headAt blockAt (drop e s)))) ≡ fine = rw (p, reading) at h in
-        let o : judge W D 1 (0 + e) (0 + length ws) (mapRun length (blocks headAt blockAt (drop e s))) ≡ fine = accepts W D 0 0 0 e (length ws) (mapRun length (blocks headAt blockAt (drop e s))) w .others in
-        rw (p, reading) (omega (arith, one-block W D 1 (0 + e) (0 + length ws) (drop e s) o))
+          let w : judge W D 0 0 0 (item e (length ws) (mapRun length (blocks headAt blockAt (drop e s)))) ≡ fine = rw (p, reading) at h in
+          let o : judge W D 1 (0 + e) (0 + length ws) (mapRun length (blocks headAt blockAt (drop e s))) ≡ fine = accepts W D 0 0 0 e (length ws) (mapRun length (blocks headAt blockAt (drop e s))) w .others in
+          rw (p, reading) (omega (arith, one-block W D 1 (0 + e) (0 + length ws) (drop e s) o))
       go (badHead q x) p = let w : refused q (0 + x) ≡ fine = rw (p, reading) at h in let z : _≡_ {A = ℕ} 0 1 = cc in absurd (omega arith)
 
   same-olds : (ws ds older newer : List ℕ) (os : List Old)
-    → mapRun (wordsOf ws) (before os done) ≡ mapRun (λ x. x) (reading headAt blockAt older)
-    → mapRun size (before os done) ≡ mapRun length (reading headAt blockAt older)
-    → judge (length ws) (length ds) 0 0 0 (mapRun size (before os done)) ≡ fine
-    → leftOf (rereadOf headAt blockAt ws ds older newer (some os)) ≡ full headAt blockAt (length ws) (length ds) newer
+      → mapRun (wordsOf ws) (before os done) ≡ mapRun (λ x. x) (reading headAt blockAt older)
+      → mapRun size (before os done) ≡ mapRun length (reading headAt blockAt older)
+      → judge (length ws) (length ds) 0 0 0 (mapRun size (before os done)) ≡ fine
+      → leftOf (rereadOf headAt blockAt ws ds older newer (some os)) ≡ full headAt blockAt (length ws) (length ds) newer
   unfolding full fullVerdict rereadOf judgeAgain keeps IsReading wordsOf size
   same-olds ws ds older newer os i j v =
-    let k : ℕ = keptFront (common older newer) os in
-    let T : Run Source = rest headAt blockAt older newer os in
-    let W : ℕ = length ws in
-    let D : ℕ = length ds in
-    let N : Run (List ℕ) = reading headAt blockAt newer in
-    let words : mapRun (wordsOf ws) (before (take k os) T) ≡ N =
-          core headAt blockAt G (List ℕ) (wordsOf ws) (λ x. x) (λ x. refl) older newer os i ∙ mapRun-id N in
-    let counts : mapRun size (before (take k os) T) ≡ mapRun length N = core headAt blockAt G ℕ size length (λ x. refl) older newer os j in
-    let f : judge W D 0 0 0 (mapRun size (before (take k os) T)) ≡ judge W D (0 + k) (0 + oldSizes (take k os)) (0 + oldWords (take k os)) (mapRun size T)
-          = judge-front W D 0 0 0 k os T (keptFront-le (common older newer) os) v in
-    let f2 : judge W D 0 0 0 (mapRun length N) ≡ judge W D k (oldSizes (take k os)) (oldWords (take k os)) (mapRun size T)
-          = rw (counts, zero-add k, zero-add (oldSizes (take k os)), zero-add (oldWords (take k os))) at f in
-    leaveAgain-is ws D (andThen (whole newer) (judge W D k (oldSizes (take k os)) (oldWords (take k os)) (mapRun size T))) k T (before (take k os) T)
+      let k : ℕ = keptFront (common older newer) os in
+      let T : Run Source = rest headAt blockAt older newer os in
+      let W : ℕ = length ws in
+      let D : ℕ = length ds in
+      let N : Run (List ℕ) = reading headAt blockAt newer in
+      let words : mapRun (wordsOf ws) (before (take k os) T) ≡ N =
+      core headAt blockAt G (List ℕ) (wordsOf ws) (λ x. x) (λ x. refl) older newer os i ∙ mapRun-id N in
+      let counts : mapRun size (before (take k os) T) ≡ mapRun length N = core headAt blockAt G ℕ size length (λ x. refl) older newer os j in
+      let f : judge W D 0 0 0 (mapRun size (before (take k os) T)) ≡ judge W D (0 + k) (0 + oldSizes (take k os)) (0 + oldWords (take k os)) (mapRun size T)
+      = judge-front W D 0 0 0 k os T (keptFront-le (common older newer) os) v in
+      let f2 : judge W D 0 0 0 (mapRun length N) ≡ judge W D k (oldSizes (take k os)) (oldWords (take k os)) (mapRun size T)
+      = rw (counts, zero-add k, zero-add (oldSizes (take k os)), zero-add (oldWords (take k os))) at f in
+      leaveAgain-is ws D (andThen (whole newer) (judge W D k (oldSizes (take k os)) (oldWords (take k os)) (mapRun size T))) k T (before (take k os) T)
       ∙ rw (← f2, words)
 
   same-reading : (W D n : ℕ) (ws ds older newer : List ℕ) → whole older ≡ fine → judge W D 0 0 0 (mapRun length (reading headAt blockAt older)) ≡ fine
-    → n ≡ countRun (reading headAt blockAt older) → ws ≡ pad W (allWords (reading headAt blockAt older)) → ds ≡ pad D (entries 0 0 (reading headAt blockAt older))
-    → leftOf (reread headAt blockAt ws ds n older newer) ≡ full headAt blockAt W D newer
+      → n ≡ countRun (reading headAt blockAt older) → ws ≡ pad W (allWords (reading headAt blockAt older)) → ds ≡ pad D (entries 0 0 (reading headAt blockAt older))
+      → leftOf (reread headAt blockAt ws ds n older newer) ≡ full headAt blockAt W D newer
   unfolding reread olds IsReading pad
   same-reading W D n ws ds older newer a b en ew ed =
-    let R : Run (List ℕ) = reading headAt blockAt older in
-    let lw : length ws ≡ W = ap length ew ∙ length-pad W (allWords R) (omega (arith, words-fit W D 0 0 0 R (omega arith) b)) in
-    let ld : length ds ≡ D = ap length ed ∙ length-pad D (entries 0 0 R) (omega (arith, entries-fit W D 0 0 0 R (omega arith) b)) in
-    let os : List Old = oldsOf 0 R in
-    let two : leb 2 n ≡ true = le-leb 2 n (omega (arith, two-pieces W D older b)) in
-    let ch : chain (length older) (length ws) n 0 0 ds ≡ some os =
-          rw (lw, en, ed) (chain-entries (length older) W D 0 0 0 (replicate (D - length (entries 0 0 R)) 0) R (whole-small older a) (omega (arith, sizes-reading older)) b) in
-    let found : olds (length older) (length ws) n ds ≡ some os = rw (two, olds) ch in
-    let i : mapRun (wordsOf ws) (before os done) ≡ mapRun (λ x. x) R = rw ew (oldsOf-words W D 0 0 0 [] (replicate (W - length (allWords R)) 0) R b refl) in
-    let j : mapRun size (before os done) ≡ mapRun length R = oldsOf-sizes W D 0 0 0 R b in
-    let v : judge (length ws) (length ds) 0 0 0 (mapRun size (before os done)) ≡ fine = rw (lw, ld, j) b in
-    let all : leftOf (rereadOf headAt blockAt ws ds older newer (some os)) ≡ full headAt blockAt (length ws) (length ds) newer = same-olds ws ds older newer os i j v in
-    rw found (all ∙ rw (lw, ld))
+      let R : Run (List ℕ) = reading headAt blockAt older in
+      let lw : length ws ≡ W = ap length ew ∙ length-pad W (allWords R) (omega (arith, words-fit W D 0 0 0 R (omega arith) b)) in
+      let ld : length ds ≡ D = ap length ed ∙ length-pad D (entries 0 0 R) (omega (arith, entries-fit W D 0 0 0 R (omega arith) b)) in
+      let os : List Old = oldsOf 0 R in
+      let two : leb 2 n ≡ true = le-leb 2 n (omega (arith, two-pieces W D older b)) in
+      let ch : chain (length older) (length ws) n 0 0 ds ≡ some os =
+      rw (lw, en, ed) (chain-entries (length older) W D 0 0 0 (replicate (D - length (entries 0 0 R)) 0) R (whole-small older a) (omega (arith, sizes-reading older)) b) in
+      let found : olds (length older) (length ws) n ds ≡ some os = rw (two, olds) ch in
+      let i : mapRun (wordsOf ws) (before os done) ≡ mapRun (λ x. x) R = rw ew (oldsOf-words W D 0 0 0 [] (replicate (W - length (allWords R)) 0) R b refl) in
+      let j : mapRun size (before os done) ≡ mapRun length R = oldsOf-sizes W D 0 0 0 R b in
+      let v : judge (length ws) (length ds) 0 0 0 (mapRun size (before os done)) ≡ fine = rw (lw, ld, j) b in
+      let all : leftOf (rereadOf headAt blockAt ws ds older newer (some os)) ≡ full headAt blockAt (length ws) (length ds) newer = same-olds ws ds older newer os i j v in
+      rw found (all ∙ rw (lw, ld))
 
   -- On the records of an accepted full reading of the older text, re-reading leaves what a full reading of the newer text leaves: every word of
   -- both arrays, and the entry count or the refusal and its place.
   pub same : (W D n : ℕ) (ws ds older newer : List ℕ) → full headAt blockAt W D older ≡ left (count n) ws ds
-    → leftOf (reread headAt blockAt ws ds n older newer) ≡ full headAt blockAt W D newer
+      → leftOf (reread headAt blockAt ws ds n older newer) ≡ full headAt blockAt W D newer
   unfolding full fullVerdict reread rereadOf olds
   same W D n ws ds older newer h =
-    let R : Run (List ℕ) = reading headAt blockAt older in
-    let L : IsLeft W D n ws ds (fullVerdict headAt blockAt W D older) R = leave-is W D n ws ds (fullVerdict headAt blockAt W D older) R h in
-    let A : (whole older ≡ fine) × (judge W D 0 0 0 (mapRun length R) ≡ fine) = and-then-fine (whole older) (judge W D 0 0 0 (mapRun length R)) (L .ok) in
-    same-reading W D n ws ds older newer (A .0) (A .1) (L .number) (L .words) (L .dir)
+      let R : Run (List ℕ) = reading headAt blockAt older in
+      let L : IsLeft W D n ws ds (fullVerdict headAt blockAt W D older) R = leave-is W D n ws ds (fullVerdict headAt blockAt W D older) R h in
+      let A : (whole older ≡ fine) × (judge W D 0 0 0 (mapRun length R) ≡ fine) = and-then-fine (whole older) (judge W D 0 0 0 (mapRun length R)) (L .ok) in
+      same-reading W D n ws ds older newer (A .0) (A .1) (L .number) (L .words) (L .dir)

@@ -1,0 +1,108 @@
+-- What the lexer's definitions say at a place of a text.
+-- Assumes nothing.
+use mathlib.Core.Path.{_≡_, refl, sym, ap, _∙_}
+use mathlib.Core.List.{List, [], _∷_}
+use mathlib.Core.Bool.{Bool, true, false, _&&_}
+use mathlib.Core.Option.{Option, none, some}
+use Prim.Native.Nat.{ℕ, zero, suc, _+_, _-_, _≤_, _<_}
+use native.Mathlib.Numerals.{add-one}
+use native.Mathlib.Nat.{add-zero}
+use native.Mathlib.Omega.{arith}
+use lib.ListN.{length, getD, drop, drop-of-length-le}
+use lib.Seq.{drop-cons}
+use lib.Dec.{ltb, leb, eqb}
+use borrow.Author.Tests.{eq-eqb, ne-eqb, lt-ltb, le-ltb, le-leb, lt-leb, leb-true, leb-false}
+use Rattle.program.specs.Class.{classOf, isWord}
+use Rattle.program.specs.Prog.{byteAt, leadWord, scanLen}
+use Rattle.grammar.specs.Lexer.{isByte, sameWord}
+use Rattle.lexer.specs.Step.{stepCode}
+
+-- the byte at a place, and the text behind it
+pub drop-next : (s : List ℕ) (i : ℕ) → i < length s → drop i s ≡ getD s i 0 ∷ drop (i + 1) s
+drop-next s i h = rw (add-one, drop-cons s i 0)
+
+pub byte-in : (s : List ℕ) (i b : ℕ) → b < 256 → i < length s → isByte b (byteAt (drop i s)) ≡ eqb (getD s i 0) b
+unfolding isByte byteAt
+byte-in s i b k h = rw (drop-next s i h, lt-ltb _ _ k)
+
+pub byte-out : (s : List ℕ) (i b : ℕ) → b < 256 → length s ≤ i → isByte b (byteAt (drop i s)) ≡ false
+unfolding isByte byteAt
+byte-out s i b k h =
+    let n : (256 ≡ b → ⊥) = λ e. omega arith in
+    rw (drop-of-length-le s h, lt-ltb _ _ k, ne-eqb _ _ n)
+
+-- an automaton's steps, whose code is r
+pub scan-out : (f : ℕ → ℕ → Option ℕ) (s : List ℕ) (i q : ℕ) → length s ≤ i → i + scanLen f q (drop i s) ≡ i
+unfolding scanLen
+scan-out f s i q h = rw (drop-of-length-le s h) (add-zero i)
+
+pub stops : (o : Option ℕ) → stepCode o ≡ 0 → o ≡ none
+stops none e = refl
+stops (some q) e = absurd (omega arith)
+
+pub goes : (o : Option ℕ) (r : ℕ) → r ≡ stepCode o → (r ≡ 0 → ⊥) → o ≡ some (r - 1)
+goes none r e n = absurd (n e)
+goes (some q) r e n =
+    let z : r - 1 ≡ q = omega arith in
+    rw z
+
+pub scan-stop : (f : ℕ → ℕ → Option ℕ) (s : List ℕ) (i q : ℕ) → i < length s → stepCode (f q (getD s i 0)) ≡ 0 → i + scanLen f q (drop i s) ≡ i
+unfolding scanLen
+scan-stop f s i q h e =
+    let z : f q (getD s i 0) ≡ none = stops _ e in
+    rw (drop-next s i h, scanLen, z) (add-zero i)
+
+pub scan-more : (f : ℕ → ℕ → Option ℕ) (s : List ℕ) (i q r : ℕ) → i < length s → r ≡ stepCode (f q (getD s i 0)) → (r ≡ 0 → ⊥) → i + scanLen f q (drop i s) ≡ i + 1 + scanLen f (r - 1) (drop (i + 1) s)
+unfolding scanLen
+scan-more f s i q r h e n =
+    let z : f q (getD s i 0) ≡ some (r - 1) = goes _ r e n in
+    rw (drop-next s i h, scanLen, z) (omega arith)
+
+-- keywords: r is the class of the byte at i
+wordy : (x r : ℕ) → r ≡ classOf x → r ≤ 16 → isWord x ≡ true
+unfolding isWord
+wordy x r e h = rw (← e, le-leb _ _ h)
+
+wordless : (x r : ℕ) → r ≡ classOf x → 16 < r → isWord x ≡ false
+unfolding isWord
+wordless x r e h = rw (← e, lt-leb _ _ h)
+
+module _ (k s : List ℕ) (j i : ℕ) (hj : j < length k) where
+  pub word-short : length s ≤ i → sameWord (leadWord (drop i s)) (drop j k) ≡ false
+  unfolding sameWord leadWord
+  word-short hi = rw (drop-next k j hj, drop-of-length-le s hi)
+
+  module _ (hi : i < length s) where
+    pub word-other : (getD s i 0 ≡ getD k j 0 → ⊥) → sameWord (leadWord (drop i s)) (drop j k) ≡ false
+    unfolding sameWord leadWord
+    word-other q = rw (drop-next k j hj, drop-next s i hi) (go (isWord (getD s i 0)))
+      where
+        go : (b : Bool) → sameWord (elim b [ true ↦ getD s i 0 ∷ leadWord (drop (i + 1) s) | false ↦ [] ]) (getD k j 0 ∷ drop (j + 1) k) ≡ false
+        go true = rw (ne-eqb _ _ q)
+        go false = refl
+
+    pub word-ends : (r : ℕ) → r ≡ classOf (getD s i 0) → 16 < r → sameWord (leadWord (drop i s)) (drop j k) ≡ false
+    unfolding sameWord leadWord
+    word-ends r e h =
+        let z : isWord (getD s i 0) ≡ false = wordless _ r e h in
+        rw (drop-next k j hj, drop-next s i hi, leadWord, z)
+
+    pub word-more : (r : ℕ) → r ≡ classOf (getD s i 0) → r ≤ 16 → getD s i 0 ≡ getD k j 0 → sameWord (leadWord (drop i s)) (drop j k) ≡ sameWord (leadWord (drop (i + 1) s)) (drop (j + 1) k)
+    unfolding sameWord leadWord
+    word-more r e h q =
+        let z : isWord (getD s i 0) ≡ true = wordy _ r e h in
+        rw (drop-next k j hj, drop-next s i hi, leadWord, z, eq-eqb _ _ q)
+
+-- behind the keyword
+module _ (k s : List ℕ) (j i : ℕ) (hj : length k ≤ j) where
+  pub word-end-in : (r : ℕ) → i < length s → r ≡ classOf (getD s i 0) → sameWord (leadWord (drop i s)) (drop j k) ≡ ltb 16 r
+  unfolding isWord leadWord sameWord
+  word-end-in r hi e = rw (drop-of-length-le k hj, drop-next s i hi, e) (go (leb (classOf (getD s i 0)) 16) (classOf (getD s i 0)) refl)
+    where
+      go : (b : Bool) (c : ℕ) → leb c 16 ≡ b → sameWord (elim b [ true ↦ getD s i 0 ∷ leadWord (drop (i + 1) s) | false ↦ [] ]) [] ≡ ltb 16 c
+      go true c t = sym (le-ltb 16 c (leb-true c 16 t))
+      go false c t = sym (lt-ltb 16 c (leb-false c 16 t))
+
+  pub word-end-out : length s ≤ i → sameWord (leadWord (drop i s)) (drop j k) ≡ true
+  unfolding sameWord leadWord
+  word-end-out hi = rw (drop-of-length-le k hj, drop-of-length-le s hi)

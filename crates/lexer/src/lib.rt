@@ -1,0 +1,506 @@
+// The lexer (lexer.rs, and the small lexical helpers of parser.rs): a text under a cursor, and words that are written behind it.
+//
+// A reader takes the answer so far, `Parsed`, and hands a refusal on, so that its body is a straight line of calls, as the Rust's with `?`.
+// The table of classes is made once, by `classes`, and lent to every reader as its first parameter.
+pub mod writer; // writer.rt: words and nodes
+
+pub use writer::back_to;
+pub use writer::close;
+pub use writer::join;
+pub use writer::minus;
+pub use writer::patch;
+pub use writer::push;
+pub use writer::replace;
+pub use writer::restart;
+ghost use mathlib.Core.Path.{_≡_};
+ghost use mathlib.Core.Bool.{Bool};
+ghost use Prim.Native.Nat.{_+_};
+ghost use lib.ListN.{drop};
+ghost use Rattle.program.specs.Class.{classOf};
+ghost use Rattle.program.specs.Prog.{scanLen, leadWord, byteAt};
+ghost use Rattle.grammar.specs.Lexer.{spaceStep, isByte, sameWord, eatWs, expectToken, expectKeyword, skipKeyword};
+ghost use Rattle.lexer.specs.Table.{Classes};
+ghost use Rattle.lexer.specs.Step.{stepCode, looksP, wordP, passed, refused, placeP};
+ghost use Rattle.lexer.specs.Reads.{Gives};
+
+// The class of each byte: 0 to 15 a hexadecimal digit and its value, 16 any other letter or `_`, 17 one of `.` `-` `$`, 18 white space,
+// 19 any other. So every question about a byte is one comparison.
+pub const CLASSES: [u8; 256] = [
+    19,
+    19,
+    19,
+    19,
+    19,
+    19,
+    19,
+    19,
+    19,
+    18,
+    18,
+    19,
+    18,
+    18,
+    19,
+    19,
+    19,
+    19,
+    19,
+    19,
+    19,
+    19,
+    19,
+    19,
+    19,
+    19,
+    19,
+    19,
+    19,
+    19,
+    19,
+    19,
+    18,
+    19,
+    19,
+    19,
+    17,
+    19,
+    19,
+    19,
+    19,
+    19,
+    19,
+    19,
+    19,
+    17,
+    17,
+    19,
+    0,
+    1,
+    2,
+    3,
+    4,
+    5,
+    6,
+    7,
+    8,
+    9,
+    19,
+    19,
+    19,
+    19,
+    19,
+    19,
+    19,
+    10,
+    11,
+    12,
+    13,
+    14,
+    15,
+    16,
+    16,
+    16,
+    16,
+    16,
+    16,
+    16,
+    16,
+    16,
+    16,
+    16,
+    16,
+    16,
+    16,
+    16,
+    16,
+    16,
+    16,
+    16,
+    16,
+    19,
+    19,
+    19,
+    19,
+    16,
+    19,
+    10,
+    11,
+    12,
+    13,
+    14,
+    15,
+    16,
+    16,
+    16,
+    16,
+    16,
+    16,
+    16,
+    16,
+    16,
+    16,
+    16,
+    16,
+    16,
+    16,
+    16,
+    16,
+    16,
+    16,
+    16,
+    16,
+    19,
+    19,
+    19,
+    19,
+    19,
+    19,
+    19,
+    19,
+    19,
+    19,
+    19,
+    19,
+    19,
+    19,
+    19,
+    19,
+    19,
+    19,
+    19,
+    19,
+    19,
+    19,
+    19,
+    19,
+    19,
+    19,
+    19,
+    19,
+    19,
+    19,
+    19,
+    19,
+    19,
+    19,
+    19,
+    19,
+    19,
+    19,
+    19,
+    19,
+    19,
+    19,
+    19,
+    19,
+    19,
+    19,
+    19,
+    19,
+    19,
+    19,
+    19,
+    19,
+    19,
+    19,
+    19,
+    19,
+    19,
+    19,
+    19,
+    19,
+    19,
+    19,
+    19,
+    19,
+    19,
+    19,
+    19,
+    19,
+    19,
+    19,
+    19,
+    19,
+    19,
+    19,
+    19,
+    19,
+    19,
+    19,
+    19,
+    19,
+    19,
+    19,
+    19,
+    19,
+    19,
+    19,
+    19,
+    19,
+    19,
+    19,
+    19,
+    19,
+    19,
+    19,
+    19,
+    19,
+    19,
+    19,
+    19,
+    19,
+    19,
+    19,
+    19,
+    19,
+    19,
+    19,
+    19,
+    19,
+    19,
+    19,
+    19,
+    19,
+    19,
+    19,
+    19,
+    19,
+    19,
+    19,
+    19,
+    19,
+    19,
+    19,
+    19,
+    19,
+    19,
+    19,
+    19,
+    19,
+    19,
+    19,
+    19,
+    19,
+    19,
+];
+
+// The table, made once in a reading: where it is used directly it is built anew at each use.
+pub fn classes() -> [u8; 256]
+    ensures { λ r. ⌜ Classes r ⌝ }
+{
+    CLASSES
+}
+
+// The class of b.
+pub fn class(classes: &[u8; 256], b: u8) -> u8
+    requires { ⌜ Classes (now classes) ⌝ }
+    ensures { λ r. ⌜ r ≡ classOf b ⌝ }
+{
+    classes[b as usize]
+}
+
+// Where the reader stands: the place in the text and the next word.
+pub struct Cursor {
+    pub at: usize,
+    pub w: usize,
+}
+
+// How far the reader came, or the number and the place of a refusal.
+pub enum Parsed {
+    Ok(Cursor),
+    Refused(u64, usize),
+}
+
+// White space and comments: 0 stop, else one more than the state behind b, which is 1 inside a comment.
+fn space_step(classes: &[u8; 256], q: u8, b: u8) -> u8
+    requires { ⌜ Classes (now classes) ⌝ }
+    ensures { λ r. ⌜ r ≡ stepCode (spaceStep q b) ⌝ }
+{
+    if q == 0 {
+        if b == 59 {
+            return 2;
+        }
+        if class(classes, b) == 18 {
+            return 1;
+        }
+        return 0;
+    }
+    if b == 10 {
+        return 1;
+    }
+    2
+}
+
+// The place behind the white space and comments that stand at `at`.
+fn space_end(classes: &[u8; 256], text: &[u8], at: usize) -> usize
+    requires { ⌜ Classes (now classes) ⌝ }
+    ensures { λ r. ⌜ r ≡ at + scanLen spaceStep 0 (drop at (now (text .entry))) ⌝ }
+{
+    let mut i = at;
+    let mut q: u8 = 0;
+    while i < text.len() {
+        let s = space_step(classes, q, text[i]);
+        if s == 0 {
+            return i;
+        }
+        q = s - 1;
+        i += 1;
+    }
+    i
+}
+
+// Is b the byte at `at`?
+fn at_byte(text: &[u8], at: usize, b: u8) -> bool
+    ensures { λ r. ⌜ r ≡ isByte b (byteAt (drop at (now (text .entry)))) ⌝ }
+{
+    if at < text.len() {
+        text[at] == b
+    } else {
+        false
+    }
+}
+
+// Does the keyword kw stand at `at`? A byte that differs is seen before its class is asked for.
+fn at_word(classes: &[u8; 256], text: &[u8], at: usize, kw: &[u8]) -> bool
+    requires { ⌜ Classes (now classes) ⌝ }
+    ensures { λ r. ⌜ r ≡ sameWord (leadWord (drop at (now (text .entry)))) (now (kw .entry)) ⌝ }
+{
+    let mut i = at;
+    let mut j = 0;
+    while j < kw.len() {
+        if text.len() <= i {
+            return false;
+        }
+        if text[i] != kw[j] {
+            return false;
+        }
+        if 16 < class(classes, text[i]) {
+            return false;
+        }
+        i += 1;
+        j += 1;
+    }
+    if i < text.len() {
+        return 16 < class(classes, text[i]);
+    }
+    true
+}
+
+// Behind white space and comments (`eat_ws`).
+pub fn eat_ws(classes: &[u8; 256], text: &[u8], p: Parsed) -> Parsed
+    requires { ⌜ Classes (now classes) ⌝ }
+    ensures { λ r. ⌜ Gives eatWs tt (now (text .entry)) p r ⌝ }
+{
+    match p {
+        Parsed::Ok(c) => {
+            let at = c.at;
+            let i = space_end(classes, text, at);
+            Parsed::Ok(Cursor { at: i, w: c.w })
+        }
+        Parsed::Refused(e, q) => Parsed::Refused(e, q),
+    }
+}
+
+// Is b the next byte? (`peek_ch`, `match_char`)
+pub fn looks(text: &[u8], p: Parsed, b: u8) -> bool
+    ensures { λ r. ⌜ r ≡ looksP (now (text .entry)) p b ⌝ }
+{
+    match p {
+        Parsed::Ok(c) => {
+            let at = c.at;
+            at_byte(text, at, b)
+        }
+        Parsed::Refused(e, q) => false,
+    }
+}
+
+// Is kw the next word? (`match_keyword`, behind white space)
+pub fn word(classes: &[u8; 256], text: &[u8], p: Parsed, kw: &[u8]) -> bool
+    requires { ⌜ Classes (now classes) ⌝ }
+    ensures { λ r. ⌜ r ≡ wordP (now (text .entry)) p (now (kw .entry)) ⌝ }
+{
+    match p {
+        Parsed::Ok(c) => {
+            let at = c.at;
+            at_word(classes, text, at, kw)
+        }
+        Parsed::Refused(e, q) => false,
+    }
+}
+
+// m bytes on, where the text has as many.
+pub fn pass(text: &[u8], p: Parsed, m: usize) -> Parsed
+    ensures { λ r. ⌜ r ≡ passed (now (text .entry)) m p ⌝ }
+{
+    match p {
+        Parsed::Ok(c) => {
+            let at = c.at;
+            if at <= text.len() {
+                if m <= text.len() - at {
+                    Parsed::Ok(Cursor { at: at + m, w: c.w })
+                } else {
+                    Parsed::Ok(c)
+                }
+            } else {
+                Parsed::Ok(c)
+            }
+        }
+        Parsed::Refused(e, q) => Parsed::Refused(e, q),
+    }
+}
+
+// A refusal at the cursor (`parse_error`).
+pub fn refuse(p: Parsed, e: u64) -> Parsed
+    ensures { λ r. ⌜ r ≡ refused e p ⌝ }
+{
+    match p {
+        Parsed::Ok(c) => Parsed::Refused(e, c.at),
+        Parsed::Refused(e2, q) => Parsed::Refused(e2, q),
+    }
+}
+
+// The place of the cursor.
+pub fn place(p: Parsed) -> usize
+    ensures { λ r. ⌜ r ≡ placeP p ⌝ }
+{
+    match p {
+        Parsed::Ok(c) => c.at,
+        Parsed::Refused(e, q) => 0,
+    }
+}
+
+// White space, and the byte b (`expect_token`).
+pub fn expect_token(classes: &[u8; 256], text: &[u8], p: Parsed, b: u8) -> Parsed
+    requires { ⌜ Classes (now classes) ⌝ }
+    ensures { λ r. ⌜ Gives (expectToken b) tt (now (text .entry)) p r ⌝ }
+{
+    let q = eat_ws(classes, text, p);
+    if looks(text, q, b) {
+        return pass(text, q, 1);
+    }
+    refuse(q, 3)
+}
+
+// White space, and the keyword kw (`expect_keyword`).
+pub fn expect_keyword(classes: &[u8; 256], text: &[u8], p: Parsed, kw: &[u8]) -> Parsed
+    requires { ⌜ Classes (now classes) ⌝ }
+    ensures { λ r. ⌜ Gives (expectKeyword (now (kw .entry))) tt (now (text .entry)) p r ⌝ }
+{
+    let q = eat_ws(classes, text, p);
+    if word(classes, text, q, kw) {
+        return pass(text, q, kw.len());
+    }
+    refuse(q, 3)
+}
+
+// White space, and the keyword kw, if it stands there.
+pub fn skip_keyword(classes: &[u8; 256], text: &[u8], p: Parsed, kw: &[u8]) -> Parsed
+    requires { ⌜ Classes (now classes) ⌝ }
+    ensures { λ r. ⌜ Gives (skipKeyword (now (kw .entry))) tt (now (text .entry)) p r ⌝ }
+{
+    let q = eat_ws(classes, text, p);
+    if word(classes, text, q, kw) {
+        return pass(text, q, kw.len());
+    }
+    q
+}

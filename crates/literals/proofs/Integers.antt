@@ -1,0 +1,72 @@
+-- The folds of integers: from nothing, digits w fold to the number that w writes.
+-- Assumes nothing.
+use mathlib.Core.Path.{_≡_, refl, sym, ap, _∙_}
+use mathlib.Core.Bool.{Bool, true, false}
+use mathlib.Core.List.{List, [], _∷_}
+use Prim.Native.Nat.{ℕ, _+_, _*_, _/_, _%_, _^_, _<_, _≤_}
+use native.Mathlib.Nat.{le-trans, div-add-mod'}
+use native.Mathlib.Omega.{arith}
+use lib.Dec.{leb}
+use borrow.Author.Tests.{le-leb, lt-leb, leb-true, leb-false}
+use Rattle.program.specs.Choice.{pick}
+use Rattle.grammar.specs.Numbers.{valueOf, largest, twos, most64, halves}
+use Rattle.literals.specs.Folds.{folded}
+use Rattle.literals.specs.Integers.{magnitudeOf, pushed, heldBy, signedOf, wordsOf, capped, shifted}
+use Rattle.literals.specs.declared.integer.Magnitude.{Magnitude}
+use Rattle.literals.specs.declared.integer.Integer.{Integer}
+use Rattle.literals.specs.declared.integer.Integer.the-variants.{Value, Refused}
+use Rattle.literals.specs.declared.number.Number.{Number}
+use Rattle.literals.specs.declared.number.Number.the-variants.{Exact, Over}
+use Rattle.literals.proofs.Folds.{holds-value}
+
+more : (v d : ℕ) → v ≤ v * 10 + d
+more v d = omega arith
+
+pub pushed-more : (v d : ℕ) → pushed (magnitudeOf v) d ≡ magnitudeOf (v * 10 + d)
+unfolding pushed magnitudeOf
+pushed-more v d = go (leb (2 ^ 128) v) refl
+  where
+    go : (t : Bool) → leb (2 ^ 128) v ≡ t → pushed (magnitudeOf v) d ≡ magnitudeOf (v * 10 + d)
+    go true e = simp (e, le-leb (2 ^ 128) (v * 10 + d) (le-trans (leb-true (2 ^ 128) v e) (more v d)))
+    go false e = simp (e, div-add-mod' v (2 ^ 64))
+
+pub shifted-more : (v d : ℕ) → shifted (capped v) d ≡ capped (v * 10 + d)
+unfolding shifted capped
+shifted-more v d = go (leb v most64) refl
+  where
+    go : (t : Bool) → leb v most64 ≡ t → shifted (capped v) d ≡ capped (v * 10 + d)
+    go true e = simp e
+    go false e = simp (e, lt-leb (v * 10 + d) most64 (le-trans (leb-false v most64 e) (more v d)))
+
+pub magnitude-value : (w : List ℕ) (v : ℕ) → folded pushed (magnitudeOf v) w ≡ magnitudeOf (valueOf v w)
+magnitude-value = holds-value pushed magnitudeOf pushed-more
+
+pub number-value : (w : List ℕ) (v : ℕ) → folded shifted (capped v) w ≡ capped (valueOf v w)
+number-value = holds-value shifted capped shifted-more
+
+largest-small : (neg : Bool) → largest neg < 2 ^ 128
+unfolding largest
+largest-small true = lib.Dec.lit< tt
+largest-small false = lib.Dec.lit< tt
+
+-- what is held is judged as the number is
+pub signed-value : (neg : Bool) (v : ℕ) → signedOf neg (magnitudeOf v) ≡ pick (leb v (largest neg)) (wordsOf (twos neg v)) Refused
+unfolding signedOf magnitudeOf
+signed-value neg v = go (leb (2 ^ 128) v) refl
+  where
+    go : (t : Bool) → leb (2 ^ 128) v ≡ t → signedOf neg (magnitudeOf v) ≡ pick (leb v (largest neg)) (wordsOf (twos neg v)) Refused
+    go true e = simp (e, lt-leb v (largest neg) (le-trans (largest-small neg) (leb-true (2 ^ 128) v e)))
+    go false e = simp (e, div-add-mod' v (2 ^ 64))
+
+-- the steps of `number::shift`
+pub exact-is : (n : Number) (v d e x : ℕ) → n ≡ Exact v → e ≡ d → x ≡ v * 10 + e → x ≤ most64 → Exact x ≡ shifted n d
+unfolding shifted capped
+exact-is n v d e x p q r h = rw (p, ← q, ← r, le-leb x most64 h)
+
+pub over-is : (n : Number) (v d : ℕ) → n ≡ Exact v → most64 < v * 10 + d → Over ≡ shifted n d
+unfolding shifted capped
+over-is n v d p h = rw (p, lt-leb (v * 10 + d) most64 h)
+
+pub over-stays : (n : Number) (d : ℕ) → n ≡ Over → Over ≡ shifted n d
+unfolding shifted
+over-stays n d p = rw p

@@ -1,0 +1,14 @@
+use Rattle.literals.specs.Hex.{hexHeld}
+use mathlib.Core.Path.{refl}
+use Rattle.literals.proofs.hex.no_hex.Statement.{statement}
+use Rattle.literals.proofs.hex.no_hex.Tie as tie
+use Rattle.literals.proofs.hex.no_hex.Reads as reads
+use Rattle.literals.proofs.hex.no_hex.Lts as lts
+
+-- src/hex.rt:15:1
+returns : tie.Need-returns
+unfolding hexHeld
+returns c = refl
+
+pub no-hex-spec : {M : Type 1} → statement M
+no-hex-spec = tie.close (tie.spec returns)

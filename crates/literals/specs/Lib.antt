@@ -1,0 +1,4 @@
+pub mod Folds
+pub mod Hex
+pub mod Integers
+pub mod Literals

@@ -1,0 +1,28 @@
+-- Literals from the states that digits fold to, and what 01 says of each answer.
+-- Assumes nothing.
+use mathlib.Core.Bool.{Bool, true, false}
+use mathlib.Core.List.{List, [], _∷_}
+use Prim.Native.Nat.{ℕ, _+_, _*_, _/_, _%_, _^_}
+use lib.Dec.{ltb, leb, eqb}
+use Rattle.program.specs.Choice.{pick}
+use Rattle.program.specs.Prog.{Prog, ret}
+use Rattle.grammar.specs.Lexer.{refuse}
+use Rattle.grammar.specs.Numbers.{int, float, inside, widen}
+use Rattle.grammar.specs.Numbers.{Literal as Written}
+use Rattle.literals.specs.declared.hex.Hex.{Hex}
+use Rattle.literals.specs.declared.literal.Literal.{Literal}
+use Rattle.literals.specs.declared.literal.Literal.the-variants.{Int, Float, Refused}
+
+-- each answer as a program: the literal, or the question at the cursor
+unfoldable pub given : Literal → Prog Written
+given (Int h l) = ret (int (h ∷ l ∷ []))
+given (Float b) = ret (float b)
+given (Refused q) = refuse q
+
+-- "`0x` or `0X` takes 1 to 16 hex digits as bits"
+unfoldable pub hexLiteral : Hex → Literal
+hexLiteral h = pick (inside 1 16 (h .count)) (Float (h .bits)) (Refused 7)
+
+-- "`f0x` exactly 8 (binary32 widened) or 16"
+unfoldable pub f0xLiteral : Hex → Literal
+f0xLiteral h = pick (eqb (h .count) 8) (Float (widen (h .bits % 2 ^ 32))) (pick (eqb (h .count) 16) (Float (h .bits)) (Refused 7))

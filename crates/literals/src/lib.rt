@@ -1,0 +1,6 @@
+// The numbers that literals write, folded digit by digit: integers of 128 bits, the bits of floats, decimals. 01: "Types and values",
+// questions 7 and 17.
+pub mod hex;
+pub mod integer;
+pub mod literal;
+pub mod number;
