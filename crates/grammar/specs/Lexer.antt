@@ -103,10 +103,14 @@ unfoldable pub skipAll : ℕ → List (List ℕ) → Prog (Unit {0})
 skipAll zero table = ret tt
 skipAll (suc u) table = eatWs >>= λ _. rankIf table (λ r. skipAll u table) (ret tt)
 
--- `match_token("...")`; where it begins and is not whole, what follows refuses with q at its first byte
+-- `...`, or a refusal with q at the first dot
+unfoldable pub threeDots : ℕ → Prog (Unit {0})
+threeDots q =
+    here (λ i. byteIf (byte ".") (byteIf (byte ".") (byteIf (byte ".") (ret tt) (fail q i)) (fail q i)) (fail q i))
+
+-- `match_token("...")`, behind white space; where it begins and is not whole, what follows would refuse with q at its first byte
 unfoldable pub dotsIf : {A : Type 0} → ℕ → Prog A → Prog A → Prog A
-dotsIf q p g =
-    here (λ i. byteIf (byte ".") (byteIf (byte ".") (byteIf (byte ".") p (fail q i)) (fail q i)) g)
+dotsIf q p g = byteAtIf (byte ".") (threeDots q >>= λ _. p) g
 
 -- the state in which an automaton stops
 unfoldable pub stateOf : (ℕ → ℕ → Option ℕ) → ℕ → List ℕ → ℕ

@@ -563,3 +563,16 @@ module _ {A : Type 0} {E : Aim A} {text : List ℕ} {p′ : Parsed} where
         subst (λ (n : ℕ). E .ends (cur .at) (cur .w) (run (h n) (cur .at) (drop (cur .at) text)) p′) o (r (omega (arith, i .inside, i .small)) .runs cur t i);
     hands = λ n x t. let o : j ≡ 0 = e ∙ ap placeP t in r (omega arith) .hands n x t;
   }
+
+-- ---- fuel: the code counts down as the program does
+pub more : {A : Type 0} (f : ℕ → Prog A) (u : ℕ) {c : ℕ} {mid : List ℕ} {E : Goal A} {text : List ℕ} {p0 p p′ : Parsed} {w w′ : List ℕ} → 0 < u → Leads (f (suc (u - 1))) c mid E text p0 p w p′ w′ → Leads (f u) c mid E text p0 p w p′ w′
+more f u {c} {mid} {E} {text} {p0} {p} {p′} {w} {w′} h r = let e : suc (u - 1) ≡ u = omega arith in subst (λ (z : ℕ). Leads (f z) c mid E text p0 p w p′ w′) e r
+
+pub no-more : {A : Type 0} (f : ℕ → Prog A) (u : ℕ) {c : ℕ} {mid : List ℕ} {E : Goal A} {text : List ℕ} {p0 p p′ : Parsed} {w w′ : List ℕ} → u ≤ 0 → Leads (f 0) c mid E text p0 p w p′ w′ → Leads (f u) c mid E text p0 p w p′ w′
+no-more f u {c} {mid} {E} {text} {p0} {p} {p′} {w} {w′} h r = let e : 0 ≡ u = omega arith in subst (λ (z : ℕ). Leads (f z) c mid E text p0 p w p′ w′) e r
+
+pub g-more : {A : Type 0} (f : ℕ → Prog A) (u : ℕ) {E : Aim A} {text : List ℕ} {p p′ : Parsed} → 0 < u → Finds (f (suc (u - 1))) E text p p′ → Finds (f u) E text p p′
+g-more f u {E} {text} {p} {p′} h r = let e : suc (u - 1) ≡ u = omega arith in subst (λ (z : ℕ). Finds (f z) E text p p′) e r
+
+pub g-no-more : {A : Type 0} (f : ℕ → Prog A) (u : ℕ) {E : Aim A} {text : List ℕ} {p p′ : Parsed} → u ≤ 0 → Finds (f 0) E text p p′ → Finds (f u) E text p p′
+g-no-more f u {E} {text} {p} {p′} h r = let e : 0 ≡ u = omega arith in subst (λ (z : ℕ). Finds (f z) E text p p′) e r

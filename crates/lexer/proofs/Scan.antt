@@ -59,11 +59,11 @@ scan-more f s i q r h e n =
     rw (drop-next s i h, scanLen, z) (omega arith)
 
 -- keywords: r is the class of the byte at i
-wordy : (x r : ℕ) → r ≡ classOf x → r ≤ 16 → isWord x ≡ true
+pub wordy : (x r : ℕ) → r ≡ classOf x → r ≤ 16 → isWord x ≡ true
 unfolding isWord
 wordy x r e h = rw (← e, le-leb _ _ h)
 
-wordless : (x r : ℕ) → r ≡ classOf x → 16 < r → isWord x ≡ false
+pub wordless : (x r : ℕ) → r ≡ classOf x → 16 < r → isWord x ≡ false
 unfolding isWord
 wordless x r e h = rw (← e, lt-leb _ _ h)
 

@@ -9,7 +9,7 @@ use lib.ListN.{length, drop, set}
 use Rattle.program.specs.Choice.{pick}
 use Rattle.program.specs.Prog.{byteAt, leadWord}
 use Rattle.records.specs.Words.{header}
-use Rattle.grammar.specs.Lexer.{isByte, sameWord}
+use Rattle.grammar.specs.Lexer.{isByte, sameWord, rank}
 use Rattle.lexer.specs.declared.Cursor.{Cursor}
 use Rattle.lexer.specs.declared.Parsed.{Parsed}
 use Rattle.lexer.specs.declared.Parsed.the-variants.{Ok, Refused}
@@ -101,3 +101,15 @@ joined (Refused e q) p = Refused e q
 abbrev pub placeP : Parsed → ℕ
 placeP (Ok c) = c .at
 placeP (Refused e q) = 0
+
+-- the rank of the next word in a table, and where the reader is behind it, or where it is if the table has it not
+abbrev pub rankP : List (List ℕ) → List ℕ → Parsed → ℕ
+rankP table text (Ok c) = rank (leadWord (drop (c .at) text)) table
+rankP table text (Refused e q) = length table
+
+abbrev pub rankedP : List (List ℕ) → List ℕ → Parsed → Parsed
+rankedP table text (Ok c) =
+    pick (ltb (rank (leadWord (drop (c .at) text)) table) (length table))
+    (Ok (record { at = c .at + length (leadWord (drop (c .at) text)); w = c .w }))
+    (Ok c)
+rankedP table text (Refused e q) = Refused e q

@@ -2,8 +2,13 @@
 //
 // A reader takes the answer so far, `Parsed`, and hands a refusal on, so that its body is a straight line of calls, as the Rust's with `?`.
 // The table of classes is made once, by `classes`, and lent to every reader as its first parameter.
+pub mod keywords; // keywords.rt: keywords by their rank in a table
 pub mod writer; // writer.rt: words and nodes
 
+pub use keywords::match_rank;
+pub use keywords::rank_of;
+pub use keywords::skip_all;
+pub use keywords::skip_one;
 pub use writer::back_to;
 pub use writer::close;
 pub use writer::join;
@@ -309,6 +314,12 @@ pub struct Cursor {
 pub enum Parsed {
     Ok(Cursor),
     Refused(u64, usize),
+}
+
+// The rank of a keyword in a table, and where the reader is behind it.
+pub struct Ranked {
+    pub p: Parsed,
+    pub r: usize,
 }
 
 // White space and comments: 0 stop, else one more than the state behind b, which is 1 inside a comment.

@@ -1,0 +1,4 @@
+pub mod Texts
+pub mod Compare
+pub mod Stores
+pub mod Judge

@@ -1,0 +1,29 @@
+-- What the cases of each answer mean in the definitions.
+-- Assumes nothing.
+use mathlib.Core.Bool.{Bool, true, false, _&&_}
+use Prim.Native.Nat.{ℕ, suc, _+_, _*_}
+use lib.Dec.{leb, ltb}
+use Rattle.records.specs.Pieces.{fine, refused}
+use Rattle.records.specs.Pieces as pieces
+use Rattle.directory.specs.declared.text.Verdict.{Verdict}
+use Rattle.directory.specs.declared.text.Verdict.the-variants.{Fine, Refused}
+use Rattle.directory.specs.declared.rooms.Room.{Room}
+use Rattle.directory.specs.declared.rooms.Room.the-variants.{Fits, Words, Entry}
+
+abbrev pub verdict : Verdict → pieces.Verdict
+verdict Fine = fine
+verdict (Refused q p) = refused q p
+
+-- Questions 20 and 21 of one piece.
+unfoldable pub roomOf : (words dir i at n : ℕ) → Room
+roomOf words dir i at n =
+    elim (leb (at + n) words && ltb (at + n) 4294967296) [
+      | true ↦ elim (leb (i * 2 + 2) dir) [ true ↦ Fits | false ↦ Entry ]
+      | false ↦ Words
+    ]
+
+-- What follows in a verdict: a refusal at the piece's end, or what is asked next.
+unfoldable pub afterRoom : Room → ℕ → pieces.Verdict → pieces.Verdict
+afterRoom Fits place v = v
+afterRoom Words place v = refused 20 place
+afterRoom Entry place v = refused 21 place
