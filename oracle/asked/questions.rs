@@ -1,0 +1,121 @@
+
+// Put behind the parser: what the changes call.
+
+/// At most so many direct children (19), and so deep (16).
+const CHILDREN: usize = 65_535;
+const DEPTH: u32 = 64;
+
+impl Parser
+{
+    /// 16: a type or value begins here.
+    fn enter(&mut self) -> Result<(), ParseError>
+    {
+        self.input.eat_ws()?;
+        if self.depth == DEPTH {
+            return self.input.parse_error("question 16");
+        }
+        self.depth += 1;
+        Ok(())
+    }
+
+    fn parse_type(&mut self) -> Result<Type, ParseError>
+    {
+        self.enter()?;
+        let ty = self.parse_type_inside()?;
+        self.depth -= 1;
+        Ok(ty)
+    }
+
+    fn parse_value(&mut self) -> Result<Value, ParseError>
+    {
+        self.enter()?;
+        let val = self.parse_value_inside()?;
+        self.depth -= 1;
+        Ok(val)
+    }
+
+    /// 15: a number from low to high.
+    fn ask_int(&mut self, low: i128, high: i128) -> Result<i128, ParseError>
+    {
+        let n = self.input.parse_int(10)?;
+        if n < low || high < n {
+            return self.input.parse_error("question 15");
+        }
+        Ok(n)
+    }
+
+    /// 17: a valid decimal, without its underscores.
+    fn ask_decimal(&self, s: &str, f: f64) -> Result<Value, ParseError>
+    {
+        if supported(s) {
+            Ok(Value::Float(f))
+        } else {
+            self.input.parse_error("question 17")
+        }
+    }
+
+    /// 18.
+    fn ask_quoted(&self) -> Result<(), ParseError>
+    {
+        self.input.parse_error("question 18")
+    }
+
+    /// 19: the n-th child has been read.
+    fn ask_children(&self, n: usize) -> Result<(), ParseError>
+    {
+        if n > CHILDREN {
+            return self.input.parse_error("question 19");
+        }
+        Ok(())
+    }
+
+    /// A typed value as two more children of a node that has `before`.
+    fn parse_counted_val(&mut self, before: usize) -> Result<TypedVal, ParseError>
+    {
+        let ty = self.parse_type()?;
+        self.ask_children(before + 1)?;
+        let val = self.parse_value()?;
+        self.ask_children(before + 2)?;
+        Ok(TypedVal { ty, val })
+    }
+
+    /// A statement may belong to the tail, which has no node: its place is kept until the
+    /// terminator shows that it does not.
+    fn note_child(&self, n: usize, over: &mut Option<crate::lexer::Checkpoint>)
+    {
+        if n == CHILDREN + 1 {
+            *over = Some(self.input.checkpoint());
+        }
+    }
+
+    /// 19 of a block, when its terminator has been read.
+    fn ask_block(&mut self, insts: usize, over: &mut Option<crate::lexer::Checkpoint>) -> Result<(), ParseError>
+    {
+        self.note_child(insts + 1, over);
+        if let Some(place) = over.take() {
+            self.input.restore(place);
+            return self.input.parse_error("question 19");
+        }
+        Ok(())
+    }
+}
+
+/// Zero, or at most 15 digits without outer zeros, times ten to the -22 up to 22.
+fn supported(s: &str) -> bool
+{
+    let s = s.trim_start_matches(['+', '-']);
+    let (numeral, power) = s.split_once(['e', 'E']).unwrap_or((s, "0"));
+    let behind = numeral.split_once('.').map_or(0, |(_, d)| d.len());
+    let digits = numeral.replace('.', "");
+    let digits = digits.trim_start_matches('0');
+    let core = digits.trim_end_matches('0');
+    if core.is_empty() {
+        return true;
+    }
+    let power = match power.parse::<i64>() {
+        Ok(n) if n.unsigned_abs() < 1 << 40 => n,
+        _ => return false,
+    };
+    let power = power - behind as i64 + (digits.len() - core.len()) as i64;
+    core.len() <= 15 && (-22..=22).contains(&power)
+}

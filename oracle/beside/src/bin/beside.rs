@@ -1,0 +1,218 @@
+//! Holds a reader against the Rust and the model: `beside SEED COUNT` takes the static library that
+//! ZIMLOKUR_LIB named at build time, `beside --model SEED COUNT` the model, to try the comparison;
+//! `--short` in place of SEED and COUNT takes every short string behind the prefixes.
+
+use beside::port::{Model, Port};
+use beside::shrink::shrink;
+use beside::{big, check, reread, rooms};
+use judge::{files, hex};
+use std::collections::BTreeMap;
+use std::process::ExitCode;
+use texts::rng::Rng;
+use texts::{clang, cover, short, Texts};
+
+#[derive(Default)]
+struct Report {
+    texts: u64,
+    accepted: u64,
+    numbers: BTreeMap<u64, u64>,
+    rooms: u64,
+    /// Calls and how many of them were accepted.
+    edits: (u64, u64),
+    altered: (u64, u64),
+    wrong: Vec<String>,
+}
+
+/// So many differences are shown; more would be the same ones again.
+const SHOWN: usize = 20;
+
+/// One text in so many is read in every room.
+const ROOMS: u64 = 16;
+
+impl Report {
+    fn wrong(&mut self, text: &[u8], why: &str) {
+        let shown = hex::encode(&text[..text.len().min(2000)]);
+        self.wrong
+            .push(format!("{shown}\n  {:?}\n  {why}", String::from_utf8_lossy(&text[..text.len().min(300)])));
+    }
+
+    fn text(&mut self, port: &dyn Port, text: &[u8]) {
+        self.texts += 1;
+        match check::full(port, text) {
+            Ok(outcome) if outcome.answer.number == 0 => self.accepted += 1,
+            Ok(outcome) => *self.numbers.entry(outcome.answer.number).or_default() += 1,
+            Err(why) => {
+                self.wrong(text, &why);
+                self.smaller(port, text);
+            }
+        }
+    }
+
+    /// A smaller text on which the reader is wrong, unless that takes long.
+    fn smaller(&mut self, port: &dyn Port, text: &[u8]) {
+        if text.len() > 2000 || self.wrong.len() > SHOWN {
+            return;
+        }
+        let small = shrink(text, |t| check::full(port, t).is_err());
+        if let Err(why) = check::full(port, &small) {
+            let last = self.wrong.last_mut().expect("it has just been added");
+            last.push_str(&format!("\n  smaller: {:?}\n  {why}", String::from_utf8_lossy(&small)));
+        }
+    }
+
+    fn rooms(&mut self, port: &dyn Port, text: &[u8]) {
+        self.tried(text, rooms::check(port, text));
+    }
+
+    fn tried(&mut self, text: &[u8], result: Result<u64, String>) {
+        match result {
+            Ok(tried) => self.rooms += tried,
+            Err(why) => self.wrong(text, &why),
+        }
+    }
+
+    /// An edit of a text, then an altered call.
+    fn edits(&mut self, port: &dyn Port, rng: &mut Rng, older: &[u8]) {
+        let Some(mut call) = reread::edit(rng, older) else { return };
+        let accepted = self.call(port, &call);
+        self.edits = (self.edits.0 + 1, self.edits.1 + accepted);
+        reread::alter(rng, &mut call);
+        let accepted = self.call(port, &call);
+        self.altered = (self.altered.0 + 1, self.altered.1 + accepted);
+    }
+
+    /// 1 if the call was accepted.
+    fn call(&mut self, port: &dyn Port, call: &reread::Call) -> u64 {
+        match reread::check(port, call) {
+            Ok(number) => u64::from(number == 0),
+            Err(why) => {
+                self.wrong(&call.older, &format!("{why}\n  {call:?}"));
+                0
+            }
+        }
+    }
+
+    fn add(&mut self, other: Report) {
+        self.texts += other.texts;
+        self.accepted += other.accepted;
+        other.numbers.into_iter().for_each(|(n, k)| *self.numbers.entry(n).or_default() += k);
+        self.rooms += other.rooms;
+        self.edits = (self.edits.0 + other.edits.0, self.edits.1 + other.edits.1);
+        self.altered = (self.altered.0 + other.altered.0, self.altered.1 + other.altered.1);
+        self.wrong.extend(other.wrong);
+    }
+
+    fn show(&self) -> String {
+        let mut out: String = self.wrong.iter().take(SHOWN).map(|w| format!("{w}\n")).collect();
+        let numbers: Vec<String> = self.numbers.iter().map(|(n, k)| format!("{n}: {k}")).collect();
+        out.push_str(&format!(
+            "{} texts, {} accepted; refused by number: {}\n",
+            self.texts,
+            self.accepted,
+            numbers.join(", ")
+        ));
+        out.push_str(&format!("{} readings in rooms around the exact fit\n", self.rooms));
+        let ((edits, kept), (altered, accepted)) = (self.edits, self.altered);
+        out.push_str(&format!(
+            "{edits} edits re-read, {kept} accepted; {altered} altered calls, {accepted} accepted\n"
+        ));
+        out.push_str(&format!("{} differences\n", self.wrong.len()));
+        out
+    }
+}
+
+/// The texts that every run reads: each form, the stored functions of clang, long lists.
+fn fixed(port: &dyn Port) -> Report {
+    let mut report = Report::default();
+    for text in cover::texts().iter().chain(&clang::functions()) {
+        report.text(port, text);
+        report.rooms(port, text);
+    }
+    big::children().iter().for_each(|text| report.text(port, text));
+    // Too long for ample arrays; their records are short.
+    big::longest().iter().for_each(|text| report.tried(text, rooms::one(port, text, 64, 64)));
+    report
+}
+
+fn stream(port: &dyn Port, seed: u64, count: u64) -> Report {
+    let mut report = Report::default();
+    let mut texts = Texts::new(seed);
+    let mut rng = Rng::new(seed ^ 0x5bd1_e995);
+    for i in 0..count {
+        let (_, text) = texts.draw();
+        report.text(port, &text);
+        if i % ROOMS == 0 {
+            report.rooms(port, &text);
+        }
+        if port.rereads() {
+            report.edits(port, &mut rng, &text);
+        }
+        if report.wrong.len() >= SHOWN {
+            break;
+        }
+    }
+    report
+}
+
+/// Every short string behind the prefixes, one half of them.
+fn half_of_short(port: &dyn Port, half: u64) -> Report {
+    let mut report = Report::default();
+    for i in (half..short::count()).step_by(2) {
+        report.text(port, &short::text(i));
+        if report.wrong.len() >= SHOWN {
+            break;
+        }
+    }
+    report
+}
+
+type Work = Box<dyn FnOnce() -> Report + Send>;
+
+/// The fixed texts and two streams, each of these with a seed of its own, at the same time.
+fn stream_work(port: &'static dyn Port, seed: u64, count: u64) -> Vec<Work> {
+    let part = move |i: u64| stream(port, seed.wrapping_mul(2).wrapping_add(i), (count + i) / 2);
+    vec![Box::new(move || fixed(port)), Box::new(move || part(0)), Box::new(move || part(1))]
+}
+
+fn short_work(port: &'static dyn Port) -> Vec<Work> {
+    vec![Box::new(move || half_of_short(port, 0)), Box::new(move || half_of_short(port, 1))]
+}
+
+fn run(work: Vec<Work>) -> Result<bool, String> {
+    let spawn = |run| std::thread::Builder::new().stack_size(256 << 20).spawn(run).map_err(|e| e.to_string());
+    let threads: Vec<_> = work.into_iter().map(spawn).collect::<Result<_, _>>()?;
+    let mut report = Report::default();
+    for thread in threads {
+        report.add(thread.join().map_err(|_| "the comparison panicked")?);
+    }
+    files::print(&report.show())?;
+    Ok(report.wrong.is_empty())
+}
+
+#[cfg(zimlokur)]
+fn library() -> Result<&'static dyn Port, String> {
+    Ok(&beside::linked::Library)
+}
+
+#[cfg(not(zimlokur))]
+fn library() -> Result<&'static dyn Port, String> {
+    Err("built without the library: set ZIMLOKUR_LIB to the whole path of libzimlokur.a and build again"
+        .to_string())
+}
+
+fn start(args: &[&str]) -> Result<bool, String> {
+    let number = |a: &str| a.parse::<u64>().map_err(|_| format!("`{a}` is no number"));
+    match args {
+        ["--model", "--short"] => run(short_work(&Model)),
+        ["--model", seed, count] => run(stream_work(&Model, number(seed)?, number(count)?)),
+        ["--short"] => run(short_work(library()?)),
+        [seed, count] => run(stream_work(library()?, number(seed)?, number(count)?)),
+        _ => Err("usage: beside [--model] SEED COUNT | beside [--model] --short".to_string()),
+    }
+}
+
+fn main() -> ExitCode {
+    let args: Vec<String> = std::env::args().skip(1).collect();
+    let args: Vec<&str> = args.iter().map(String::as_str).collect();
+    files::finish(start(&args))
+}

@@ -1,0 +1,36 @@
+//! Arrays to lend, with guards on both sides that no reader may touch.
+
+const GUARD: u64 = 0xdead_beef_dead_beef;
+const GUARDS: usize = 8;
+
+/// What a lent array holds before a full reading.
+pub const GARBAGE: u64 = 0xa5a5_a5a5_a5a5_a5a5;
+
+#[derive(Clone, Debug)]
+pub struct Lent(Vec<u64>);
+
+impl Lent {
+    /// So many words of garbage.
+    pub fn garbage(length: usize) -> Lent {
+        Lent::holding(&vec![GARBAGE; length])
+    }
+
+    pub fn holding(words: &[u64]) -> Lent {
+        let guard = [GUARD; GUARDS];
+        Lent([&guard, words, &guard].concat())
+    }
+
+    pub fn words(&self) -> &[u64] {
+        &self.0[GUARDS..self.0.len() - GUARDS]
+    }
+
+    pub fn words_mut(&mut self) -> &mut [u64] {
+        let end = self.0.len() - GUARDS;
+        &mut self.0[GUARDS..end]
+    }
+
+    pub fn guarded(&self) -> bool {
+        let end = self.0.len() - GUARDS;
+        self.0[..GUARDS].iter().chain(&self.0[end..]).all(|&w| w == GUARD)
+    }
+}

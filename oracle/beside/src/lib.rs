@@ -1,0 +1,13 @@
+//! A reader held against the Rust (tree or refusal and place), against the model (every word of
+//! both arrays), and by itself (structure, zeros behind, nothing written outside what was lent).
+
+pub mod big;
+pub mod check;
+pub mod lent;
+pub mod port;
+pub mod reread;
+pub mod rooms;
+pub mod shrink;
+
+#[cfg(zimlokur)]
+pub mod linked;

@@ -1,0 +1,106 @@
+//! The static library. Nothing checks these declarations against the header: they are kept to
+//! numbers and slices, and every result is compared.
+
+use crate::port::{Parsed, Port, Reparsed};
+
+extern "C" {
+    fn zimlokur_parse_define(
+        text: *const u8,
+        text_len: usize,
+        words: *mut u64,
+        words_len: usize,
+        directory: *mut u64,
+        directory_len: usize,
+        place: *mut u64,
+        entries: *mut u64,
+    ) -> u64;
+
+    fn zimlokur_position(text: *const u8, text_len: usize, place: u64, line: *mut u64, column: *mut u64);
+
+    #[cfg(feature = "reread")]
+    fn zimlokur_reparse_define(
+        older: *const u8,
+        older_len: usize,
+        newer: *const u8,
+        newer_len: usize,
+        words: *mut u64,
+        words_len: usize,
+        directory: *mut u64,
+        directory_len: usize,
+        older_entries: u64,
+        place: *mut u64,
+        entries: *mut u64,
+        first: *mut u64,
+        read: *mut u64,
+    ) -> u64;
+}
+
+/// What results hold before a call, so that one left unwritten shows.
+const UNSET: u64 = 0x5a5a_5a5a_5a5a_5a5a;
+
+pub struct Library;
+
+impl Port for Library {
+    fn parse_define(&self, text: &[u8], words: &mut [u64], directory: &mut [u64]) -> Parsed {
+        let (mut place, mut entries) = (UNSET, UNSET);
+        // The pointers and lengths are those of slices that live through the call.
+        let number = unsafe {
+            zimlokur_parse_define(
+                text.as_ptr(),
+                text.len(),
+                words.as_mut_ptr(),
+                words.len(),
+                directory.as_mut_ptr(),
+                directory.len(),
+                &mut place,
+                &mut entries,
+            )
+        };
+        Parsed { number, place, entries }
+    }
+
+    fn position(&self, text: &[u8], place: u64) -> (u64, u64) {
+        let (mut line, mut column) = (UNSET, UNSET);
+        unsafe { zimlokur_position(text.as_ptr(), text.len(), place, &mut line, &mut column) };
+        (line, column)
+    }
+
+    fn rereads(&self) -> bool {
+        cfg!(feature = "reread")
+    }
+
+    #[cfg(feature = "reread")]
+    fn reparse_define(
+        &self,
+        older: &[u8],
+        newer: &[u8],
+        words: &mut [u64],
+        directory: &mut [u64],
+        older_entries: u64,
+    ) -> Reparsed {
+        let (mut place, mut entries, mut first, mut read) = (UNSET, UNSET, UNSET, UNSET);
+        let number = unsafe {
+            zimlokur_reparse_define(
+                older.as_ptr(),
+                older.len(),
+                newer.as_ptr(),
+                newer.len(),
+                words.as_mut_ptr(),
+                words.len(),
+                directory.as_mut_ptr(),
+                directory.len(),
+                older_entries,
+                &mut place,
+                &mut entries,
+                &mut first,
+                &mut read,
+            )
+        };
+        Reparsed { number, place, entries, first, read }
+    }
+
+    #[cfg(not(feature = "reread"))]
+    fn reparse_define(&self, _: &[u8], _: &[u8], _: &mut [u64], _: &mut [u64], _: u64) -> Reparsed {
+        unreachable!("rereads() says no")
+    }
+}

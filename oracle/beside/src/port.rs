@@ -1,0 +1,79 @@
+//! The calls of the static library, as a trait: the library itself, the model, and wrong readers
+//! to try the comparison on.
+
+/// `zimlokur_parse_define`: 0 or the refusal's number, and what it stored.
+#[derive(Clone, Copy, Debug, PartialEq, Eq)]
+pub struct Parsed {
+    pub number: u64,
+    pub place: u64,
+    pub entries: u64,
+}
+
+/// `zimlokur_reparse_define`, likewise.
+#[derive(Clone, Copy, Debug, PartialEq, Eq)]
+pub struct Reparsed {
+    pub number: u64,
+    pub place: u64,
+    pub entries: u64,
+    pub first: u64,
+    pub read: u64,
+}
+
+pub trait Port: Sync {
+    fn parse_define(&self, text: &[u8], words: &mut [u64], directory: &mut [u64]) -> Parsed;
+
+    /// Line and column.
+    fn position(&self, text: &[u8], place: u64) -> (u64, u64);
+
+    /// Whether it can re-read at all.
+    fn rereads(&self) -> bool;
+
+    fn reparse_define(
+        &self,
+        older: &[u8],
+        newer: &[u8],
+        words: &mut [u64],
+        directory: &mut [u64],
+        entries: u64,
+    ) -> Reparsed;
+}
+
+/// The model as a port.
+pub struct Model;
+
+impl Port for Model {
+    fn parse_define(&self, text: &[u8], words: &mut [u64], directory: &mut [u64]) -> Parsed {
+        match model::parse_define(text, words, directory) {
+            Ok(entries) => Parsed { number: 0, place: 0, entries: entries as u64 },
+            Err(r) => Parsed { number: r.number, place: r.place as u64, entries: 0 },
+        }
+    }
+
+    fn position(&self, text: &[u8], place: u64) -> (u64, u64) {
+        judge::position::position(text, place as usize)
+    }
+
+    fn rereads(&self) -> bool {
+        true
+    }
+
+    fn reparse_define(
+        &self,
+        older: &[u8],
+        newer: &[u8],
+        words: &mut [u64],
+        directory: &mut [u64],
+        entries: u64,
+    ) -> Reparsed {
+        match model::reparse_define(older, newer, words, directory, entries) {
+            Ok(r) => Reparsed {
+                number: 0,
+                place: 0,
+                entries: r.entries as u64,
+                first: r.first as u64,
+                read: r.read as u64,
+            },
+            Err(r) => Reparsed { number: r.number, place: r.place as u64, entries: 0, first: 0, read: 0 },
+        }
+    }
+}

@@ -1,0 +1,158 @@
+//! The comparison on wrong readers: each must be caught.
+
+use beside::port::{Model, Parsed, Port, Reparsed};
+use beside::{check, reread, rooms};
+use judge::answer::on_big_stack;
+use texts::rng::Rng;
+use texts::Texts;
+
+/// The model with one thing wrong.
+#[derive(Clone, Copy, Debug)]
+enum Wrong {
+    LaterBlank,
+    EarlyTwenty,
+    SingleTree,
+    RefusesAll,
+    Untouched,
+    NoZerosBehind,
+    NoZerosOnRefusal,
+    PlaceOff,
+    EntriesOnRefusal,
+    WritesOutside,
+    Column,
+    HandsBack,
+    RereadsAll,
+    MadeUpRun,
+    KeepsEqualEnd,
+}
+
+use Wrong::*;
+
+impl Port for Wrong {
+    fn parse_define(&self, text: &[u8], words: &mut [u64], directory: &mut [u64]) -> Parsed {
+        match self {
+            SingleTree => return Model.parse_define(b"void @f(){ret void}", words, directory),
+            RefusesAll => {
+                words.fill(0);
+                directory.fill(0);
+                return Parsed { number: 5, place: 0, entries: 0 };
+            }
+            Untouched => {
+                let (mut w, mut d) = (words.to_vec(), directory.to_vec());
+                return Model.parse_define(text, &mut w, &mut d);
+            }
+            // One word short of what it needs: room judged before the piece ends.
+            EarlyTwenty => {
+                let (room, mut w) = (words.len().saturating_sub(1), words.to_vec());
+                let parsed = Model.parse_define(text, &mut w[..room], directory);
+                words[..room].copy_from_slice(&w[..room]);
+                words[room..].fill(0);
+                return parsed;
+            }
+            _ => {}
+        }
+        let mut parsed = Model.parse_define(text, words, directory);
+        match self {
+            LaterBlank if parsed.number == 0 => {
+                let first = directory[3] >> 32;
+                words[first as usize..].fill(0);
+            }
+            NoZerosBehind if parsed.number == 0 => {
+                if let Some(last) = words.last_mut() {
+                    *last = 1;
+                }
+            }
+            NoZerosOnRefusal if parsed.number != 0 => directory.fill(1),
+            PlaceOff if parsed.number == 3 => parsed.place += 1,
+            EntriesOnRefusal if parsed.number != 0 => parsed.entries = 1,
+            WritesOutside => unsafe { *words.as_mut_ptr().add(words.len()) = 0 },
+            _ => {}
+        }
+        parsed
+    }
+
+    fn position(&self, text: &[u8], place: u64) -> (u64, u64) {
+        let (line, column) = Model.position(text, place);
+        (line, if matches!(self, Column) { column - 1 } else { column })
+    }
+
+    fn rereads(&self) -> bool {
+        true
+    }
+
+    fn reparse_define(
+        &self,
+        older: &[u8],
+        newer: &[u8],
+        words: &mut [u64],
+        directory: &mut [u64],
+        entries: u64,
+    ) -> Reparsed {
+        match self {
+            HandsBack => return Reparsed { number: 0, place: 0, entries, first: entries, read: 0 },
+            RereadsAll => {
+                let parsed = Model.parse_define(newer, words, directory);
+                return Reparsed {
+                    number: parsed.number,
+                    place: parsed.place,
+                    entries: parsed.entries,
+                    first: 0,
+                    read: parsed.entries,
+                };
+            }
+            _ => {}
+        }
+        let mut answer = Model.reparse_define(older, newer, words, directory, entries);
+        match self {
+            MadeUpRun if answer.number == 0 => answer.read = 1,
+            KeepsEqualEnd if older == newer && answer.read == 1 => {
+                answer.first += 1;
+                answer.read = 0;
+            }
+            _ => {}
+        }
+        answer
+    }
+}
+
+/// Whether some text, room or edit shows the reader to be wrong.
+fn caught(port: Wrong) -> bool {
+    let mut texts = Texts::new(7);
+    let mut rng = Rng::new(8);
+    (0..300).any(|_| {
+        let (_, text) = texts.draw();
+        let edited = reread::edit(&mut rng, &text).is_some_and(|call| reread::check(&port, &call).is_err());
+        edited || check::full(&port, &text).is_err() || rooms::check(&port, &text).is_err()
+    })
+}
+
+#[test]
+fn wrong_readers_are_caught() {
+    on_big_stack(|| {
+        let all = [
+            LaterBlank, EarlyTwenty, SingleTree, RefusesAll, Untouched, NoZerosBehind, NoZerosOnRefusal,
+            PlaceOff, EntriesOnRefusal, WritesOutside, Column, HandsBack, RereadsAll, MadeUpRun,
+            KeepsEqualEnd,
+        ];
+        for wrong in all {
+            assert!(caught(wrong), "{wrong:?}");
+        }
+    });
+}
+
+#[test]
+fn the_model_passes() {
+    on_big_stack(|| {
+        let mut texts = Texts::new(9);
+        let mut rng = Rng::new(10);
+        for _ in 0..3000 {
+            let (_, text) = texts.draw();
+            assert_eq!(check::full(&Model, &text).err(), None);
+            assert_eq!(rooms::check(&Model, &text).err(), None);
+            if let Some(mut call) = reread::edit(&mut rng, &text) {
+                reread::alter(&mut rng, &mut call);
+                assert_eq!(reread::check(&Model, &call).err(), None);
+            }
+        }
+    });
+}

@@ -1,0 +1,121 @@
+//! The Rust's answer to one text.
+
+use crate::domain;
+use crate::messages;
+use crate::position::position;
+use std::cell::Cell;
+use std::fmt;
+use std::panic::{catch_unwind, AssertUnwindSafe};
+use std::sync::Once;
+use uvclang::ast::Function;
+
+#[derive(Debug)]
+pub enum Answer {
+    Accepted(Box<Function>),
+    Refused {
+        number: u64,
+        place: usize,
+    },
+    /// Outside 01's domain, at this question and place: the Rust reads on, wraps or aborts.
+    Outside {
+        number: u64,
+        place: usize,
+    },
+    /// The Rust panicked, or gave something that no table knows: never inside the domain.
+    Broken(String),
+}
+
+/// One line: `A` and the form, `R` number and place, `X` number and place or why.
+impl fmt::Display for Answer {
+    fn fmt(&self, f: &mut fmt::Formatter<'_>) -> fmt::Result {
+        match self {
+            Answer::Accepted(function) => write!(f, "A {}", crate::canonical_from_tree(function)),
+            Answer::Refused { number, place } => write!(f, "R {number} {place}"),
+            Answer::Outside { number, place } => write!(f, "X {number} {place}"),
+            Answer::Broken(why) => write!(f, "X broken: {why}"),
+        }
+    }
+}
+
+/// What the Rust says, once 01's own questions have let the text through.
+pub fn judge(text: &[u8]) -> Answer {
+    if let Some((number, place)) = domain::whole_text(text) {
+        return Answer::Outside { number, place };
+    }
+    let text = std::str::from_utf8(text).expect("bytes up to 127");
+    if !domain::surely_inside(text.as_bytes()) {
+        if let Answer::Refused { number: number @ 15.., place } = asked(text) {
+            return Answer::Outside { number, place };
+        }
+    }
+    rust(text)
+}
+
+/// The test copy's answer, whatever the text. Nested some 17,000 deep it aborts the process.
+pub fn rust(text: &str) -> Answer {
+    survive(|| {
+        let mut parser = uvclang::parser::Parser::new(uvclang::lexer::Lexer::new(text, "text"));
+        match parser.parse_define() {
+            Ok(function) => Answer::Accepted(Box::new(function)),
+            Err(e) => refused(text, &e.msg, parser.place(), e.pos.line_column()),
+        }
+    })
+}
+
+/// The asked copy's answer: the Rust's, but with questions 15 to 19 put in.
+pub fn asked(text: &str) -> Answer {
+    survive(|| {
+        let mut parser = asked::parser::Parser::new(asked::lexer::Lexer::new(text, "text"));
+        match parser.parse_define() {
+            Ok(function) => Answer::Accepted(Box::new(function)),
+            Err(e) => refused(text, &e.msg, parser.place(), e.pos.line_column()),
+        }
+    })
+}
+
+thread_local! {
+    static IN_THE_RUST: Cell<bool> = const { Cell::new(false) };
+}
+
+/// Keeps the Rust's panics off the screen, and only those.
+fn quiet() {
+    static ONCE: Once = Once::new();
+    ONCE.call_once(|| {
+        let loud = std::panic::take_hook();
+        std::panic::set_hook(Box::new(move |panic| {
+            if !IN_THE_RUST.get() {
+                loud(panic);
+            }
+        }));
+    });
+}
+
+fn survive(run: impl FnOnce() -> Answer) -> Answer {
+    quiet();
+    IN_THE_RUST.set(true);
+    let answer = catch_unwind(AssertUnwindSafe(run));
+    IN_THE_RUST.set(false);
+    answer.unwrap_or_else(|panic| {
+        let text = panic.downcast_ref::<&str>().map(|s| s.to_string());
+        let text = text.or_else(|| panic.downcast_ref::<String>().cloned());
+        Answer::Broken(format!("panic: {}", text.unwrap_or_default()))
+    })
+}
+
+/// A refusal whose line and column, as the Rust gives them, are those of its place.
+fn refused(text: &str, message: &str, place: usize, given: (u32, u32)) -> Answer {
+    let Some(number) = messages::number(message) else {
+        return Answer::Broken(format!("no number for the message {message:?}"));
+    };
+    let (line, column) = position(text.as_bytes(), place);
+    if (u64::from(given.0), u64::from(given.1)) != (line, column) {
+        return Answer::Broken(format!("place {place} is {line}:{column}, the Rust says {given:?}"));
+    }
+    Answer::Refused { number, place }
+}
+
+/// Runs on a stack that is ample for every text of the domain.
+pub fn on_big_stack<T: Send + 'static>(run: impl FnOnce() -> T + Send + 'static) -> T {
+    let thread = std::thread::Builder::new().stack_size(256 << 20).spawn(run).expect("a thread");
+    thread.join().unwrap_or_else(|panic| std::panic::resume_unwind(panic))
+}

@@ -1,0 +1,77 @@
+//! Which texts need not be asked questions 1, 2 and 15 to 19: a quick look that is sure of its yes.
+
+/// 01's limits on a whole text.
+pub const LENGTH: usize = 16_777_216;
+
+/// The place of question 1 or 2, if the text meets it.
+pub fn whole_text(text: &[u8]) -> Option<(u64, usize)> {
+    if text.len() > LENGTH {
+        return Some((1, LENGTH));
+    }
+    text.iter().position(|&b| b > 127).map(|place| (2, place))
+}
+
+/// True only if no reading of the text can meet 15 to 19. False says nothing.
+pub fn surely_inside(text: &[u8]) -> bool {
+    // 65,536 children take more bytes than this; so does a count of openers that stays small.
+    text.len() < 65_536 && few_openers(text) && no_forbidden(text) && small_numbers(text)
+}
+
+/// Each level of nesting has an opening byte.
+fn few_openers(text: &[u8]) -> bool {
+    let opener = |b: &&u8| matches!(b, b'(' | b'[' | b'{' | b'<');
+    text.iter().filter(opener).count() < 60
+}
+
+/// No quote, hence no quoted attribute or opcode, and no `atomicrmw`.
+fn no_forbidden(text: &[u8]) -> bool {
+    !text.contains(&b'"') && !text.windows(9).any(|w| w == b"atomicrmw")
+}
+
+/// Every run of digits is within the strictest limit that can concern it.
+fn small_numbers(text: &[u8]) -> bool {
+    let mut i = 0;
+    while i < text.len() {
+        if !text[i].is_ascii_digit() {
+            i += 1;
+            continue;
+        }
+        let start = i;
+        let mut value: u64 = 0;
+        let mut digits = 0;
+        while i < text.len() && (text[i].is_ascii_digit() || text[i] == b'_') {
+            if text[i] != b'_' {
+                digits += 1;
+                value = value.saturating_mul(10).saturating_add(u64::from(text[i] - b'0'));
+            }
+            i += 1;
+        }
+        if digits > 7 || !small(&text[..start], value) {
+            return false;
+        }
+    }
+    true
+}
+
+/// At most 7 digits before and behind a point and a small power of ten are supported.
+fn small(before: &[u8], value: u64) -> bool {
+    match before {
+        [.., b'i'] => (1..=8_388_608).contains(&value),
+        [.., b'e' | b'E'] | [.., b'e' | b'E', b'+' | b'-'] => value <= 8,
+        _ => true,
+    }
+}
+
+#[cfg(test)]
+mod tests {
+    use super::*;
+
+    #[test]
+    fn sure_and_not() {
+        assert!(surely_inside(b"void @f(){ret i32 7}"));
+        for bad in ["i0", "i8388609", "99999999", "1e23", "\"x\"", "atomicrmw"] {
+            assert!(!surely_inside(bad.as_bytes()));
+        }
+        assert_eq!(whole_text(b"a\x80"), Some((2, 1)));
+    }
+}

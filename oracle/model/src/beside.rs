@@ -1,0 +1,63 @@
+//! The model held against the Rust, and its re-reading against its full reading.
+
+use crate::full::{parse_define, records, Records};
+use crate::lexer::Refusal;
+use crate::reread::{reparse_define, Reread};
+use judge::vector::{Expected, Vector};
+use judge::{canonical_from_tree, canonical_from_words, judge, Answer};
+
+/// How the two differ on a text, if they do. Outside the domain the asked copy answers.
+pub fn difference(text: &[u8]) -> Option<String> {
+    match (records(text), judge(text)) {
+        (Ok(r), Answer::Accepted(tree)) => {
+            match canonical_from_words(text, &r.words, &r.directory, r.entries()) {
+                Ok(form) if form == canonical_from_tree(&tree) => None,
+                Ok(form) => Some(format!("model {form}\n   rust {}", canonical_from_tree(&tree))),
+                Err(why) => Some(format!("the model's words: {why}")),
+            }
+        }
+        (
+            Err(Refusal { number, place }),
+            Answer::Refused { number: n, place: p } | Answer::Outside { number: n, place: p },
+        ) if (number, place) == (n, p) => None,
+        (Ok(_), answer) => Some(format!("model accepts\n   rust {answer}")),
+        (Err(r), answer) => Some(format!("model R {} {}\n   rust {answer}", r.number, r.place)),
+    }
+}
+
+/// A full reading in arrays of these lengths: entries or refusal, and both arrays.
+fn full(text: &[u8], words: usize, directory: usize) -> (Result<usize, Refusal>, Vec<u64>, Vec<u64>) {
+    let (mut w, mut d) = (vec![0; words], vec![0; directory]);
+    let result = parse_define(text, &mut w, &mut d);
+    (result, w, d)
+}
+
+/// On records as a full reading left them, re-reading must equal the full reading of the newer
+/// text, in every word and in the refusal. Arrays have `spare` words more than the older text
+/// needs. Gives the report of an accepted edit, or nothing if older or newer text is refused.
+pub fn edit(older: &[u8], newer: &[u8], spare: (usize, usize)) -> Result<Option<Reread>, String> {
+    let Ok(r) = records(older) else { return Ok(None) };
+    let (words, directory) = (r.words.len() + spare.0, r.directory.len() + spare.1);
+    let (entries, mut w, mut d) = full(older, words, directory);
+    let entries = entries.expect("it fits") as u64;
+    let result = reparse_define(older, newer, &mut w, &mut d, entries);
+    let (expected, expected_w, expected_d) = full(newer, words, directory);
+    if result.map(|r| r.entries) != expected {
+        return Err(format!("re-reading answers {result:?}, reading {expected:?}"));
+    }
+    if (w, d) != (expected_w, expected_d) {
+        return Err("re-reading leaves other words than reading".to_string());
+    }
+    Ok(result.ok())
+}
+
+/// The model's answer as a line of a list.
+pub fn vector(text: &[u8]) -> Vector {
+    let answer = match records(text) {
+        Ok(Records { words, directory, .. }) => {
+            Expected::Accepted { entries: directory.len() / 2, words, directory }
+        }
+        Err(Refusal { number, place }) => Expected::Refused { number, place },
+    };
+    Vector { text: text.to_vec(), answer }
+}

@@ -1,0 +1,1 @@
+pub type FxHashMap<K, V> = std::collections::HashMap<K, V>;
