@@ -2,13 +2,19 @@
 -- Assumes nothing.
 use mathlib.Core.Path.{_≡_, refl, sym, ap, _∙_}
 use mathlib.Core.Bool.{Bool, true, false, _&&_}
-use Prim.Native.Nat.{ℕ, suc, _+_, _*_, _≤_, _<_}
+use mathlib.Core.List.{List, [], _∷_}
+use Prim.Native.Nat.{ℕ, suc, _+_, _-_, _*_, _/_, _%_, _≤_, _<_}
+use native.Mathlib.Numerals.{add-one}
+use native.Mathlib.Omega.{arith}
 use lib.Dec.{leb, ltb}
-use borrow.Author.Tests.{le-leb, lt-leb, lt-ltb, le-ltb}
-use Rattle.records.specs.Pieces.{Run, item, judge, fine, refused}
+use lib.ListN.{length, drop, getD, drop-of-length-le}
+use borrow.Author.Tests.{le-leb, lt-leb, lt-ltb, le-ltb, leb-true, leb-false, ltb-true}
+use Rattle.records.specs.Pieces.{Run, done, item, mapRun, size, before, Old, old, oldSizes, oldWords, judge, fine, refused, Verdict}
 use Rattle.directory.specs.Answers.{roomOf, afterRoom}
+use Rattle.directory.specs.Olds.{oldsOf}
 use Rattle.directory.specs.declared.rooms.Room.{Room}
 use Rattle.directory.specs.declared.rooms.Room.the-variants.{Fits, Words, Entry}
+use Rattle.directory.proofs.Links.{sizeAt, firstAt, countAt, olds-next, olds-length}
 
 module _ (words dir i at n : ℕ) where
   pub no-words : words < at + n → roomOf words dir i at n ≡ Words
@@ -40,3 +46,74 @@ module _ (words dir i at n : ℕ) where
           go2 : (b : Bool) → leb (i * 2 + 2) dir ≡ b → judge words dir i pos at (item e n r) ≡ afterRoom (roomOf words dir i at n) (pos + e) (judge words dir (suc i) (pos + e) (at + n) r)
           go2 false u = rw (judge, roomOf, t, u)
           go2 true u = rw (judge, roomOf, t, u)
+
+-- what a yes says
+pub record Fitting (words dir i at n : ℕ) : Type 0 where
+  pub in-words : at + n ≤ words
+  pub small : at + n < 4294967296
+  pub entry : i * 2 + 2 ≤ dir
+
+pub fitting : (words dir i at n : ℕ) → roomOf words dir i at n ≡ Fits → Fitting words dir i at n
+unfolding roomOf
+fitting words dir i at n h = go (leb (at + n) words) refl
+  where
+    go : (a : Bool) → leb (at + n) words ≡ a → Fitting words dir i at n
+    go false p = let w : Words ≡ Fits = rw (roomOf, p) at h in let z : _≡_ {A = ℕ} 0 1 = cc in absurd (omega arith)
+    go true p = go2 (ltb (at + n) 4294967296) refl
+      where
+        go2 : (b : Bool) → ltb (at + n) 4294967296 ≡ b → Fitting words dir i at n
+        go2 false q = let w : Words ≡ Fits = rw (roomOf, p, q) at h in let z : _≡_ {A = ℕ} 0 1 = cc in absurd (omega arith)
+        go2 true q = go3 (leb (i * 2 + 2) dir) refl
+          where
+            go3 : (c : Bool) → leb (i * 2 + 2) dir ≡ c → Fitting words dir i at n
+            go3 false r = let w : Entry ≡ Fits = rw (roomOf, p, q, r) at h in let z : _≡_ {A = ℕ} 0 1 = cc in absurd (omega arith)
+            go3 true r = record { in-words = leb-true (at + n) words p; small = ltb-true (at + n) 4294967296 q; entry = leb-true (i * 2 + 2) dir r }
+
+-- ---- old pieces, one by one
+abbrev pub sizesOf : List Old → Run ℕ
+sizesOf os = mapRun size (before os done)
+
+judge-old : (W D i pos at e f n : ℕ) (os : List Old) → judge W D i pos at (sizesOf (old e f n ∷ os)) ≡ afterRoom (roomOf W D i at n) (pos + e) (judge W D (suc i) (pos + e) (at + n) (sizesOf os))
+unfolding mapRun size before
+judge-old W D i pos at e f n os = judge-item W D i at n pos e (sizesOf os)
+
+judge-none : (W D i pos at : ℕ) → judge W D i pos at (sizesOf []) ≡ fine
+unfolding mapRun before judge
+judge-none W D i pos at = refl
+
+-- v is what is still to be judged, from old piece k on
+pub record Judging (W D n : ℕ) (dir : List ℕ) (v : Verdict) (k i pos at : ℕ) : Type 0 where
+  pub small : pos + oldSizes (drop k (oldsOf n dir)) < 4294967296
+  pub same : v ≡ judge W D i pos at (sizesOf (drop k (oldsOf n dir)))
+
+module _ (W D n : ℕ) (dir : List ℕ) (v : Verdict) (inside : n * 2 ≤ length dir) where
+  pub judging-end : (k i pos at : ℕ) → n ≤ k → Judging W D n dir v k i pos at → fine ≡ v
+  judging-end k i pos at h g = sym (g .same ∙ rw (drop-of-length-le (oldsOf n dir) {i = k} (omega (arith, olds-length n dir inside))) (judge-none W D i pos at))
+
+  module _ (k i pos at : ℕ) (g : Judging W D n dir v k i pos at) (h : k < n) where
+    piece : drop k (oldsOf n dir) ≡ old (sizeAt dir k) (firstAt dir k) (countAt dir k) ∷ drop (suc k) (oldsOf n dir)
+    piece = olds-next n k dir inside h
+
+    turn : v ≡ afterRoom (roomOf W D i at (countAt dir k)) (pos + sizeAt dir k) (judge W D (suc i) (pos + sizeAt dir k) (at + countAt dir k) (sizesOf (drop (suc k) (oldsOf n dir))))
+    turn = g .same ∙ rw piece (judge-old W D i pos at (sizeAt dir k) (firstAt dir k) (countAt dir k) (drop (suc k) (oldsOf n dir)))
+
+    rest-size : oldSizes (drop k (oldsOf n dir)) ≡ sizeAt dir k + oldSizes (drop (suc k) (oldsOf n dir))
+    unfolding oldSizes
+    rest-size = rw piece
+
+    pub place-small : pos + getD dir (k * 2) 0 % 4294967296 < 4294967296
+    place-small = omega (arith, g .small, rest-size)
+
+    pub judging-words : Words ≡ roomOf W D i at (getD dir (k * 2 + 1) 0 % 4294967296) → refused 20 (pos + getD dir (k * 2) 0 % 4294967296) ≡ v
+    unfolding afterRoom
+    judging-words r = sym (turn ∙ rw (← r))
+
+    pub judging-entry : Entry ≡ roomOf W D i at (getD dir (k * 2 + 1) 0 % 4294967296) → refused 21 (pos + getD dir (k * 2) 0 % 4294967296) ≡ v
+    unfolding afterRoom
+    judging-entry r = sym (turn ∙ rw (← r))
+
+    pub judging-next : Fits ≡ roomOf W D i at (getD dir (k * 2 + 1) 0 % 4294967296) → Judging W D n dir v (k + 1) (i + 1) (pos + getD dir (k * 2) 0 % 4294967296) (at + getD dir (k * 2 + 1) 0 % 4294967296)
+    unfolding afterRoom
+    judging-next r =
+        rw (add-one k, add-one i)
+        (record { small = omega (arith, g .small, rest-size); same = turn ∙ rw (← r) })

@@ -1,4 +1,10 @@
 pub mod Texts
 pub mod Compare
 pub mod Stores
+pub mod Chain
+pub mod Links
 pub mod Judge
+pub mod Word
+pub mod Front
+pub mod Find
+pub mod Moved

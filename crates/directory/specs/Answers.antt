@@ -1,12 +1,16 @@
 -- What the cases of each answer mean in the definitions.
 -- Assumes nothing.
+use mathlib.Core.List.{List}
 use mathlib.Core.Bool.{Bool, true, false, _&&_}
 use Prim.Native.Nat.{ℕ, suc, _+_, _*_}
 use lib.Dec.{leb, ltb}
-use Rattle.records.specs.Pieces.{fine, refused}
+use Rattle.records.specs.Pieces.{fine, refused, Old}
 use Rattle.records.specs.Pieces as pieces
 use Rattle.directory.specs.declared.text.Verdict.{Verdict}
 use Rattle.directory.specs.declared.text.Verdict.the-variants.{Fine, Refused}
+use Rattle.directory.specs.Olds.{FoundAt, FoundNot}
+use Rattle.directory.specs.declared.older.Found.{Found}
+use Rattle.directory.specs.declared.older.Found.the-variants.{At, Nothing}
 use Rattle.directory.specs.declared.rooms.Room.{Room}
 use Rattle.directory.specs.declared.rooms.Room.the-variants.{Fits, Words, Entry}
 
@@ -27,3 +31,8 @@ unfoldable pub afterRoom : Room → ℕ → pieces.Verdict → pieces.Verdict
 afterRoom Fits place v = v
 afterRoom Words place v = refused 20 place
 afterRoom Entry place v = refused 21 place
+
+-- Where an old piece starts.
+abbrev pub Finds : List Old → ℕ → Found → Type 0
+Finds os target (At j) = FoundAt os target j
+Finds os target (Nothing j) = FoundNot os target j

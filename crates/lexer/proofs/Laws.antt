@@ -3,19 +3,20 @@
 use mathlib.Core.Path.{_≡_, refl, sym, ap, _∙_, subst}
 use mathlib.Core.List.{List, [], _∷_, _++_, append-assoc, append-nil}
 use mathlib.Core.Bool.{Bool, true, false, _&&_}
+use mathlib.Core.Option.{Option}
 use Prim.Native.Nat.{ℕ, zero, suc, _+_, _-_, _*_, _≤_, _<_}
 use native.Mathlib.Omega.{arith}
 use native.Mathlib.Nat.{add-zero, mul-add, mul-le-mul-left, mul-le-mul-right}
 use native.Mathlib.Numerals.{add-one}
 use lib.Dec.{ltb, leb, eqb}
-use lib.ListN.{length, getD, drop, set, length-append, length-drop}
+use lib.ListN.{length, getD, take, drop, set, length-append, length-drop}
 use lib.Seq.{drop-drop}
 use borrow.Author.Tests.{lt-ltb, le-leb, eqb-true, ltb-true}
 use Rattle.program.specs.Class.{isWord}
-use Rattle.program.specs.Prog.{Prog, ret, fail, look, eat, here, lead, scan, last, Res, ok, closed, no-at, run, _>>=_, byteAt, leadWord, next, run-bind, mono, EndsAt}
+use Rattle.program.specs.Prog.{Prog, ret, fail, look, eat, here, lead, scan, last, Res, ok, closed, no-at, run, _>>=_, byteAt, leadWord, scanLen, scanLen-le, next, run-bind, mono, EndsAt}
 use Rattle.records.specs.Words.{node, header}
-use Rattle.grammar.specs.Lexer.{eatWs, refuse, place, isByte, byteIf, sameWord, eatN, wordIf, tokenIf}
-use Rattle.lexer.specs.Step.{bumped, looksP, wordP, passed, refused, pushed, pushes, headerOf, closes, patches, replaced, replaces, placeP}
+use Rattle.grammar.specs.Lexer.{eatWs, refuse, place, isByte, byteIf, byteAtIf, sameWord, eatN, wordIf, wordAtIf, tokenIf, threeDots, dotsIf}
+use Rattle.lexer.specs.Step.{bumped, looksP, wordP, passed, refused, refusedAt, pushed, pushes, headerOf, closes, patches, replaced, replaces, placeP}
 use Rattle.lexer.specs.Reads.{Stands, Budget, At, Ends, at, out, Leads, Goal, made, reach, Reached, there, gone as is-gone, same, Inside, Aim, Finds, Gave, got, not, gave, Gives, Came, on, off, came, Comes}
 use Rattle.lexer.specs.declared.Cursor.{Cursor}
 use Rattle.lexer.specs.declared.Parsed.{Parsed}
@@ -41,7 +42,7 @@ bind-at {A} {B} f h text i = run-bind f h i (drop i text) ∙ go (run f i (drop 
     go (closed ws j) e = refl
     go (no-at q p) e = refl
 
-no-ok : {A : Type 0} (c : Cursor) (e q : ℕ) → Ok c ≡ Refused e q → A
+pub no-ok : {A : Type 0} (c : Cursor) (e q : ℕ) → Ok c ≡ Refused e q → A
 no-ok c e q h = absurd (let z : _≡_ {A = ℕ} 0 1 = cc in omega arith)
 
 ok-same : (c d : Cursor) → Ok c ≡ Ok d → d ≡ c
@@ -51,7 +52,7 @@ pub true-false : {A : Type 0} → _≡_ {A = Bool} false true → A
 true-false e = absurd (let z : _≡_ {A = ℕ} 0 1 = cc in omega arith)
 
 -- ---- the cursor and its words
-bump-in : (n : ℕ) → n < 4294967296 → bumped n ≡ n + 1
+pub bump-in : (n : ℕ) → n < 4294967296 → bumped n ≡ n + 1
 unfolding bumped
 bump-in n h = rw (lt-ltb _ _ h)
 
@@ -283,7 +284,7 @@ place-at {A} h {E = E} {text = text} {p′ = p′} {w′ = w′} j e r = record 
 }
 
 -- ---- tests
-some-byte : (b : ℕ) (s : List ℕ) → isByte b (byteAt s) ≡ true → 1 ≤ length s
+pub some-byte : (b : ℕ) (s : List ℕ) → isByte b (byteAt s) ≡ true → 1 ≤ length s
 unfolding isByte byteAt
 some-byte b [] e = go (ltb b 256) refl e
   where
@@ -318,7 +319,7 @@ run-eatN (suc n) f text i h =
     let e : i + 1 + n ≡ i + suc n = omega arith in
     run-eat (eatN n f) text i (omega arith) ∙ run-eatN n f text (i + 1) l ∙ ap (λ (j : ℕ). run f j (drop j text)) e
 
-byte-run : {A : Type 0} (b : ℕ) (f g : Prog A) (text : List ℕ) (i : ℕ) (z : Bool) → isByte b (byteAt (drop i text)) ≡ z → run (byteIf b f g) i (drop i text) ≡ run (elim z [ true ↦ eat f | false ↦ g ]) i (drop i text)
+pub byte-run : {A : Type 0} (b : ℕ) (f g : Prog A) (text : List ℕ) (i : ℕ) (z : Bool) → isByte b (byteAt (drop i text)) ≡ z → run (byteIf b f g) i (drop i text) ≡ run (elim z [ true ↦ eat f | false ↦ g ]) i (drop i text)
 unfolding run byteIf
 byte-run b f g text i z e = ap (λ (y : Bool). run (elim y [ true ↦ eat f | false ↦ g ]) i (drop i text)) e
 
@@ -576,3 +577,145 @@ g-more f u {E} {text} {p} {p′} h r = let e : suc (u - 1) ≡ u = omega arith i
 
 pub g-no-more : {A : Type 0} (f : ℕ → Prog A) (u : ℕ) {E : Aim A} {text : List ℕ} {p p′ : Parsed} → u ≤ 0 → Finds (f 0) E text p p′ → Finds (f u) E text p p′
 g-no-more f u {E} {text} {p} {p′} h r = let e : 0 ≡ u = omega arith in subst (λ (z : ℕ). Finds (f z) E text p p′) e r
+
+-- ---- tests that leave the cursor where it is, and what they allow
+byte-at-run : {A : Type 0} (b : ℕ) (f g : Prog A) (text : List ℕ) (i : ℕ) (z : Bool) → isByte b (byteAt (drop i text)) ≡ z → run (byteAtIf b f g) i (drop i text) ≡ run (elim z [ true ↦ f | false ↦ g ]) i (drop i text)
+unfolding run byteAtIf
+byte-at-run b f g text i z e = ap (λ (y : Bool). run (elim y [ true ↦ f | false ↦ g ]) i (drop i text)) e
+
+word-at-run : {A : Type 0} (kw : List ℕ) (f g : Prog A) (text : List ℕ) (i : ℕ) (z : Bool) → sameWord (leadWord (drop i text)) kw ≡ z → run (wordAtIf kw f g) i (drop i text) ≡ run (elim z [ true ↦ f | false ↦ g ]) i (drop i text)
+unfolding run wordAtIf
+word-at-run kw f g text i z e = ap (λ (y : Bool). run (elim y [ true ↦ f | false ↦ g ]) i (drop i text)) e
+
+-- a byte stands at the cursor
+pub record Here (text : List ℕ) (p : Parsed) : Type 0 where
+  pub some : (cur : Cursor) → p ≡ Ok cur → 1 ≤ length (drop (cur .at) text)
+
+pub byte-here : {text : List ℕ} {p : Parsed} (b : ℕ) {r : Bool} → r ≡ looksP text p b → r ≡ true → Here text p
+byte-here {text} b e y = record { some = λ cur t. some-byte b (drop (cur .at) text) (seen text b e y t) }
+
+pub word-here : {text : List ℕ} {p : Parsed} (kw : List ℕ) {r : Bool} → r ≡ wordP text p kw → r ≡ true → 1 ≤ length kw → Here text p
+word-here {text} kw e y l = record { some = λ cur t. omega (arith, l, some-word kw (drop (cur .at) text) (read text kw e y t)) }
+
+module _ {A : Type 0} {mid : List ℕ} {E : Goal A} {text : List ℕ} {p0 : Parsed} {p′ : Parsed} {w w′ : List ℕ} {c : ℕ} {p : Parsed} where
+  pub byte-at-yes : {f : Prog A} (b : ℕ) (g : Prog A) {r : Bool} → r ≡ looksP text p b → r ≡ true → Leads f c mid E text p0 p w p′ w′ → Leads (byteAtIf b f g) c mid E text p0 p w p′ w′
+  byte-at-yes {f} b g e y h = record {
+    runs = λ o low k cur t a. subst (λ (v : Res A). E .ends o k low v p′ w′) (sym (byte-at-run b f g text (cur .at) true (seen text b e y t))) (h .runs o low k cur t a);
+    hands = h .hands;
+  }
+
+  pub byte-at-no : {g : Prog A} (b : ℕ) (f : Prog A) {r : Bool} → r ≡ looksP text p b → r ≡ false → Leads g c mid E text p0 p w p′ w′ → Leads (byteAtIf b f g) c mid E text p0 p w p′ w′
+  byte-at-no {g} b f e y h = record {
+    runs = λ o low k cur t a. subst (λ (v : Res A). E .ends o k low v p′ w′) (sym (byte-at-run b f g text (cur .at) false (seen text b e y t))) (h .runs o low k cur t a);
+    hands = h .hands;
+  }
+
+  pub word-at-yes : {f : Prog A} (kw : List ℕ) (g : Prog A) {r : Bool} → r ≡ wordP text p kw → r ≡ true → Leads f c mid E text p0 p w p′ w′ → Leads (wordAtIf kw f g) c mid E text p0 p w p′ w′
+  word-at-yes {f} kw g e y h = record {
+    runs = λ o low k cur t a. subst (λ (v : Res A). E .ends o k low v p′ w′) (sym (word-at-run kw f g text (cur .at) true (read text kw e y t))) (h .runs o low k cur t a);
+    hands = h .hands;
+  }
+
+  pub word-at-no : {g : Prog A} (kw : List ℕ) (f : Prog A) {r : Bool} → r ≡ wordP text p kw → r ≡ false → Leads g c mid E text p0 p w p′ w′ → Leads (wordAtIf kw f g) c mid E text p0 p w p′ w′
+  word-at-no {g} kw f e y h = record {
+    runs = λ o low k cur t a. subst (λ (v : Res A). E .ends o k low v p′ w′) (sym (word-at-run kw f g text (cur .at) false (read text kw e y t))) (h .runs o low k cur t a);
+    hands = h .hands;
+  }
+
+  -- one byte on, where one stands
+  pub eat-then : {f : Prog A} {q : Parsed} → Here text p → q ≡ passed text 1 p → Leads f (c + 3) mid E text p0 q w p′ w′ → Leads (eat f) c mid E text p0 p w p′ w′
+  eat-then {f} {q} z i h = record {
+    runs = λ o low k cur t a. subst (λ (v : Res A). E .ends o k low v p′ w′) (sym (run-eat f text (cur .at) (z .some cur t))) (moved c 1 (c + 3) cur (i ∙ ap (passed text 1) t) (z .some cur t) (omega arith) o low k a h);
+    hands = λ n x t. h .hands n x (i ∙ ap (passed text 1) t);
+  }
+
+  -- the place as the code has it
+  pub here-at : (k : ℕ → Prog A) (j : ℕ) → j ≡ placeP p → (j ≤ 16777216 → Leads (k j) c mid E text p0 p w p′ w′) → Leads (here k) c mid E text p0 p w p′ w′
+  unfolding run
+  here-at h j e r = record {
+    runs = λ b low k cur t a.
+        let i : j ≡ cur .at = e ∙ ap placeP t in
+        subst (λ (n : ℕ). E .ends b k low (run (h n) (cur .at) (drop (cur .at) text)) p′ w′) i (r (omega (arith, a .inside, a .small)) .runs b low k cur t a);
+    hands = λ n x t. let i : j ≡ 0 = e ∙ ap placeP t in r (omega arith) .hands n x t;
+  }
+
+-- a refusal at another place
+pub fail-at : {A : Type 0} (e i : ℕ) {c : ℕ} {mid : List ℕ} {E : Goal A} {text : List ℕ} {p0 p q : Parsed} {w w′ : List ℕ} → q ≡ refusedAt e i p → Leads (fail e i) c mid E text p0 p w q w′
+unfolding run
+fail-at e i {E = E} {q = q} {w′ = w′} h = record {
+  runs = λ b low k cur t a. subst (λ (z : Parsed). E .ends b k low (no-at e i) z w′) (sym (h ∙ ap (refusedAt e i) t)) (E .outs b k low e i w′);
+  hands = λ n y t. h ∙ ap (refusedAt e i) t;
+}
+
+module _ {A : Type 0} {E : Aim A} {text : List ℕ} {p′ : Parsed} {p : Parsed} where
+  pub g-byte-at-yes : {f : Prog A} (b : ℕ) (g : Prog A) {r : Bool} → r ≡ looksP text p b → r ≡ true → Finds f E text p p′ → Finds (byteAtIf b f g) E text p p′
+  g-byte-at-yes {f} b g e y h = record {
+    runs = λ cur t i. subst (λ (v : Res A). E .ends (cur .at) (cur .w) v p′) (sym (byte-at-run b f g text (cur .at) true (seen text b e y t))) (h .runs cur t i);
+    hands = h .hands;
+  }
+
+  pub g-byte-at-no : {g : Prog A} (b : ℕ) (f : Prog A) {r : Bool} → r ≡ looksP text p b → r ≡ false → Finds g E text p p′ → Finds (byteAtIf b f g) E text p p′
+  g-byte-at-no {g} b f e y h = record {
+    runs = λ cur t i. subst (λ (v : Res A). E .ends (cur .at) (cur .w) v p′) (sym (byte-at-run b f g text (cur .at) false (seen text b e y t))) (h .runs cur t i);
+    hands = h .hands;
+  }
+
+  pub g-word-at-yes : {f : Prog A} (kw : List ℕ) (g : Prog A) {r : Bool} → r ≡ wordP text p kw → r ≡ true → Finds f E text p p′ → Finds (wordAtIf kw f g) E text p p′
+  g-word-at-yes {f} kw g e y h = record {
+    runs = λ cur t i. subst (λ (v : Res A). E .ends (cur .at) (cur .w) v p′) (sym (word-at-run kw f g text (cur .at) true (read text kw e y t))) (h .runs cur t i);
+    hands = h .hands;
+  }
+
+  pub g-word-at-no : {g : Prog A} (kw : List ℕ) (f : Prog A) {r : Bool} → r ≡ wordP text p kw → r ≡ false → Finds g E text p p′ → Finds (wordAtIf kw f g) E text p p′
+  g-word-at-no {g} kw f e y h = record {
+    runs = λ cur t i. subst (λ (v : Res A). E .ends (cur .at) (cur .w) v p′) (sym (word-at-run kw f g text (cur .at) false (read text kw e y t))) (h .runs cur t i);
+    hands = h .hands;
+  }
+
+  pub g-eat : {f : Prog A} {q : Parsed} → Here text p → q ≡ passed text 1 p → Finds f E text q p′ → Finds (eat f) E text p p′
+  g-eat {f} {q} z i h = record {
+    runs = λ cur t x. subst (λ (v : Res A). E .ends (cur .at) (cur .w) v p′) (sym (run-eat f text (cur .at) (z .some cur t))) (g-moved 1 cur (i ∙ ap (passed text 1) t) (z .some cur t) x h);
+    hands = λ n x t. h .hands n x (i ∙ ap (passed text 1) t);
+  }
+
+  pub g-here : (k : ℕ → Prog A) (j : ℕ) → j ≡ placeP p → (j ≤ 16777216 → Finds (k j) E text p p′) → Finds (here k) E text p p′
+  unfolding run
+  g-here h j e r = record {
+    runs = λ cur t i.
+        let o : j ≡ cur .at = e ∙ ap placeP t in
+        subst (λ (n : ℕ). E .ends (cur .at) (cur .w) (run (h n) (cur .at) (drop (cur .at) text)) p′) o (r (omega (arith, i .inside, i .small)) .runs cur t i);
+    hands = λ n x t. let o : j ≡ 0 = e ∙ ap placeP t in r (omega arith) .hands n x t;
+  }
+
+  pub g-fail-at : (e i : ℕ) → p′ ≡ refusedAt e i p → Finds (fail e i) E text p p′
+  unfolding run
+  g-fail-at e i h = record {
+    runs = λ cur t x. subst (λ (z : Parsed). E .ends (cur .at) (cur .w) (no-at e i) z) (sym (h ∙ ap (refusedAt e i) t)) (E .outs (cur .at) (cur .w) e i);
+    hands = λ n y t. h ∙ ap (refusedAt e i) t;
+  }
+
+-- behind what an automaton passes
+pub scan-run : {A : Type 0} (f : ℕ → ℕ → Option ℕ) (q : ℕ) (k : List ℕ → Prog A) (text : List ℕ) (i : ℕ) → run (scan f q k) i (drop i text) ≡ run (k (take (scanLen f q (drop i text)) (drop i text))) (i + scanLen f q (drop i text)) (drop (i + scanLen f q (drop i text)) text)
+unfolding run
+scan-run f q k text i = rw (drop-drop (scanLen f q (drop i text)) i text)
+
+pub g-scan : {A : Type 0} {E : Aim A} {text : List ℕ} {p′ : Parsed} (f : ℕ → ℕ → Option ℕ) (q : ℕ) (k : List ℕ → Prog A) (cur : Cursor) (i : ℕ) → i ≡ cur .at + scanLen f q (drop (cur .at) text) → Finds (k (take (scanLen f q (drop (cur .at) text)) (drop (cur .at) text))) E text (Ok (record { at = i; w = cur .w })) p′ → Finds (scan f q k) E text (Ok cur) p′
+g-scan {A} {E} {text} {p′} f q k cur i e h = record {
+  runs = λ c t x.
+      let o : c ≡ cur = ok-same cur c t in
+      let v : Inside text cur = rw o at x in
+      let m : scanLen f q (drop (cur .at) text) ≤ length (drop (cur .at) text) = scanLen-le f q (drop (cur .at) text) in
+      let z : i ≤ length text = omega (arith, length-drop (cur .at) text, v .inside) in
+      let y : E .ends i (cur .w) (run (k (take (scanLen f q (drop (cur .at) text)) (drop (cur .at) text))) i (drop i text)) p′ = h .runs (record { at = i; w = cur .w }) refl (record { inside = z; small = v .small }) in
+      rw o (E .sooner (cur .at) i (cur .w) (run (scan f q k) (cur .at) (drop (cur .at) text)) p′ (omega arith) (rw (scan-run f q k text (cur .at), ← e) y));
+  hands = λ n y t. no-ok cur n y t;
+}
+
+-- `...` behind white space
+pub dots-yes : {A : Type 0} {mid : List ℕ} {E : Goal A} {text : List ℕ} {p0 p p1 p′ : Parsed} {w w′ : List ℕ} {c : ℕ} {f : Prog A} (e : ℕ) (g : Prog A) {r : Bool} → r ≡ looksP text p 46 → r ≡ true → Gives (threeDots e) tt text p p1 → Leads f c mid E text p0 p1 w p′ w′ → Leads (dotsIf e f g) c mid E text p0 p w p′ w′
+unfolding dotsIf
+dots-yes e g s y d h = byte-at-yes _ _ s y (val _ d h)
+
+pub dots-no : {A : Type 0} {mid : List ℕ} {E : Goal A} {text : List ℕ} {p0 p p′ : Parsed} {w w′ : List ℕ} {c : ℕ} {g : Prog A} (e : ℕ) (f : Prog A) {r : Bool} → r ≡ looksP text p 46 → r ≡ false → Leads g c mid E text p0 p w p′ w′ → Leads (dotsIf e f g) c mid E text p0 p w p′ w′
+unfolding dotsIf
+dots-no e f s y h = byte-at-no _ _ s y h

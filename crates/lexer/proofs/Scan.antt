@@ -11,11 +11,12 @@ use native.Mathlib.Omega.{arith}
 use lib.ListN.{length, getD, drop, drop-of-length-le}
 use lib.Seq.{drop-cons}
 use lib.Dec.{ltb, leb, eqb}
-use borrow.Author.Tests.{eq-eqb, ne-eqb, lt-ltb, le-ltb, le-leb, lt-leb, leb-true, leb-false}
+use borrow.Author.Tests.{eq-eqb, ne-eqb, lt-ltb, le-ltb, le-leb, lt-leb, leb-true, leb-false, ltb-true, ltb-false, eqb-true}
 use Rattle.program.specs.Class.{classOf, isWord}
 use Rattle.program.specs.Prog.{byteAt, leadWord, scanLen}
-use Rattle.grammar.specs.Lexer.{isByte, sameWord}
+use Rattle.grammar.specs.Lexer.{isByte, sameWord, stateOf}
 use Rattle.lexer.specs.Step.{stepCode}
+use Rattle.lexer.specs.Names.{taken, StopAt}
 
 -- the byte at a place, and the text behind it
 pub drop-next : (s : List ℕ) (i : ℕ) → i < length s → drop i s ≡ getD s i 0 ∷ drop (i + 1) s
@@ -51,6 +52,10 @@ unfolding scanLen
 scan-stop f s i q h e =
     let z : f q (getD s i 0) ≡ none = stops _ e in
     rw (drop-next s i h, scanLen, z) (add-zero i)
+
+pub scan-some : (f : ℕ → ℕ → Option ℕ) (s : List ℕ) (i q r : ℕ) → i < length s → f q (getD s i 0) ≡ some r → i + scanLen f q (drop i s) ≡ i + 1 + scanLen f r (drop (i + 1) s)
+unfolding scanLen
+scan-some f s i q r h z = rw (drop-next s i h, scanLen, z) (omega arith)
 
 pub scan-more : (f : ℕ → ℕ → Option ℕ) (s : List ℕ) (i q r : ℕ) → i < length s → r ≡ stepCode (f q (getD s i 0)) → (r ≡ 0 → ⊥) → i + scanLen f q (drop i s) ≡ i + 1 + scanLen f (r - 1) (drop (i + 1) s)
 unfolding scanLen
@@ -106,3 +111,61 @@ module _ (k s : List ℕ) (j i : ℕ) (hj : length k ≤ j) where
   pub word-end-out : length s ≤ i → sameWord (leadWord (drop i s)) (drop j k) ≡ true
   unfolding sameWord leadWord
   word-end-out hi = rw (drop-of-length-le k hj, drop-of-length-le s hi)
+
+-- an automaton and the state in which it stops
+pub record Going (f : ℕ → ℕ → Option ℕ) (text : List ℕ) (at i q : ℕ) : Type 0 where
+  pub place : at + scanLen f 0 (drop at text) ≡ i + scanLen f q (drop i text)
+  pub state : stateOf f 0 (taken f 0 (drop at text)) ≡ stateOf f q (taken f q (drop i text))
+
+module _ (f : ℕ → ℕ → Option ℕ) (text : List ℕ) (at : ℕ) where
+  pub going-start : Going f text at at 0
+  going-start = record { place = refl; state = refl }
+
+  module _ (i q : ℕ) where
+    taken-more : (r : ℕ) → i < length text → f q (getD text i 0) ≡ some r → stateOf f q (taken f q (drop i text)) ≡ stateOf f r (taken f r (drop (i + 1) text))
+    unfolding scanLen stateOf
+    taken-more r h z = rw (drop-next text i h, scanLen, z, stateOf, z)
+
+    taken-stop : i < length text → f q (getD text i 0) ≡ none → stateOf f q (taken f q (drop i text)) ≡ q
+    unfolding scanLen stateOf
+    taken-stop h z = rw (drop-next text i h, scanLen, z)
+
+    taken-out : length text ≤ i → stateOf f q (taken f q (drop i text)) ≡ q
+    unfolding scanLen stateOf
+    taken-out h = rw (drop-of-length-le text h)
+
+    pub going-more : (r : ℕ) → i < length text → r ≡ stepCode (f q (getD text i 0)) → (r ≡ 0 → ⊥) → Going f text at i q → Going f text at (i + 1) (r - 1)
+    going-more r h e n g = record {
+      place = g .place ∙ scan-more f text i q r h e n;
+      state = g .state ∙ taken-more (r - 1) h (goes _ r e n);
+    }
+
+    pub going-stop : i < length text → stepCode (f q (getD text i 0)) ≡ 0 → Going f text at i q → StopAt f text at (record { at = i; q = q })
+    going-stop h e g = record {
+      place = sym (g .place ∙ scan-stop f text i q h e);
+      state = sym (g .state ∙ taken-stop h (stops _ e));
+    }
+
+    pub going-out : length text ≤ i → Going f text at i q → StopAt f text at (record { at = i; q = q })
+    going-out h g = record {
+      place = sym (g .place ∙ scan-out f text i q h);
+      state = sym (g .state ∙ taken-out h);
+    }
+
+-- a byte that is there is inside the text
+pub byte-inside : (s : List ℕ) (i b : ℕ) → isByte b (byteAt (drop i s)) ≡ true → i < length s
+unfolding isByte byteAt
+byte-inside s i b e = go (ltb i (length s)) refl
+  where
+    go : (z : Bool) → ltb i (length s) ≡ z → i < length s
+    go true t = ltb-true _ _ t
+    go false t =
+        let h : isByte b 256 ≡ true = rw (drop-of-length-le s (ltb-false i (length s) t)) at e in
+        absurd (no-end (ltb b 256) refl h)
+      where
+        no-end : (z : Bool) → ltb b 256 ≡ z → (z && eqb 256 b) ≡ true → ⊥
+        no-end true u k =
+            let l : b < 256 = ltb-true _ _ u in
+            let q : 256 ≡ b = eqb-true _ _ k in
+            omega arith
+        no-end false u k = let z : _≡_ {A = ℕ} 0 1 = cc in omega arith

@@ -1,3 +1,6 @@
 pub mod Table
 pub mod Step
 pub mod Reads
+pub mod Names
+pub mod Number
+pub mod Place

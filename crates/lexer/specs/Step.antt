@@ -46,6 +46,11 @@ abbrev pub refused : ℕ → Parsed → Parsed
 refused e (Ok c) = Refused e (c .at)
 refused e (Refused e′ q) = Refused e′ q
 
+-- a refusal at another place
+abbrev pub refusedAt : ℕ → ℕ → Parsed → Parsed
+refusedAt e i (Ok c) = Refused e i
+refusedAt e i (Refused e′ q) = Refused e′ q
+
 -- one more word: where the cursor is then, and the words
 abbrev pub pushed : Parsed → Parsed
 pushed (Ok c) = Ok (record { at = c .at; w = bumped (c .w) })

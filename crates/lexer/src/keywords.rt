@@ -33,13 +33,14 @@ pub fn same(a: &[u8], b: &[u8]) -> bool
 }
 
 // The lesser.
-fn least(a: usize, b: usize) -> usize
+pub fn least(a: usize, b: usize) -> usize
     ensures { λ r. ⌜ (r ≤ a) × (r ≤ b) × ((a ≤ b → r ≡ a) × (b ≤ a → r ≡ b)) ⌝ }
 {
     if a <= b { a } else { b }
 }
 
-fn wide(x: u8) -> usize
+// A length.
+pub fn wide(x: u8) -> usize
     ensures { λ r. ⌜ r ≡ x ⌝ }
 {
     x as usize

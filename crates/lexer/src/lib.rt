@@ -3,12 +3,31 @@
 // A reader takes the answer so far, `Parsed`, and hands a refusal on, so that its body is a straight line of calls, as the Rust's with `?`.
 // The table of classes is made once, by `classes`, and lent to every reader as its first parameter.
 pub mod keywords; // keywords.rt: keywords by their rank in a table
+pub mod lines; // lines.rt: the line and the column of a place
+pub mod names; // names.rt: names, quoted or not
+pub mod numbers; // numbers.rt: numbers of at most 64 bits
+pub mod skips; // skips.rt: what is passed over, and byte strings
+pub mod spelling; // spelling.rt: names with quotes and escapes undone
 pub mod writer; // writer.rt: words and nodes
 
 pub use keywords::match_rank;
 pub use keywords::rank_of;
 pub use keywords::skip_all;
 pub use keywords::skip_one;
+pub use lines::position_of;
+pub use names::name_word;
+pub use names::parse_global_name;
+pub use names::parse_local_name;
+pub use names::read_word;
+pub use numbers::parse_int;
+pub use skips::balanced;
+pub use skips::cstring;
+pub use skips::skip_metadata_ref;
+pub use skips::skip_parens;
+pub use skips::three_dots;
+pub use spelling::same_name;
+pub use spelling::spelled_rank;
+pub use spelling::spells;
 pub use writer::back_to;
 pub use writer::close;
 pub use writer::join;
@@ -25,7 +44,7 @@ ghost use Rattle.program.specs.Class.{classOf};
 ghost use Rattle.program.specs.Prog.{scanLen, leadWord, byteAt};
 ghost use Rattle.grammar.specs.Lexer.{spaceStep, isByte, sameWord, eatWs, expectToken, expectKeyword, skipKeyword};
 ghost use Rattle.lexer.specs.Table.{Classes};
-ghost use Rattle.lexer.specs.Step.{stepCode, looksP, wordP, passed, refused, placeP};
+ghost use Rattle.lexer.specs.Step.{stepCode, looksP, wordP, passed, refused, refusedAt, placeP};
 ghost use Rattle.lexer.specs.Reads.{Gives};
 
 // The class of each byte: 0 to 15 a hexadecimal digit and its value, 16 any other letter or `_`, 17 one of `.` `-` `$`, 18 white space,
@@ -322,6 +341,51 @@ pub struct Ranked {
     pub r: usize,
 }
 
+// An answer with a number: a value, or a name's word.
+pub struct Num {
+    pub p: Parsed,
+    pub v: u64,
+}
+
+// A word as it stands in the text, quotes included, and whether it has no bytes (between its quotes).
+pub struct WordAt {
+    pub p: Parsed,
+    pub start: usize,
+    pub end: usize,
+    pub empty: bool,
+}
+
+// A number, or one that 64 bits do not hold.
+pub enum Val {
+    Exact(u64),
+    Over,
+}
+
+// The place behind digits, and their value.
+pub struct Digits {
+    pub at: usize,
+    pub val: Val,
+}
+
+// A place as line and column, both from 1.
+pub struct Position {
+    pub line: usize,
+    pub column: usize,
+}
+
+// The next byte of a name with escapes undone, if there is one, and the place behind it.
+pub struct Letter {
+    pub there: bool,
+    pub b: u16,
+    pub next: usize,
+}
+
+// Where an automaton stopped, and in which state.
+pub struct Stop {
+    pub at: usize,
+    pub q: u8,
+}
+
 // White space and comments: 0 stop, else one more than the state behind b, which is 1 inside a comment.
 fn space_step(classes: &[u8; 256], q: u8, b: u8) -> u8
     requires { ⌜ Classes (now classes) ⌝ }
@@ -361,7 +425,7 @@ fn space_end(classes: &[u8; 256], text: &[u8], at: usize) -> usize
 }
 
 // Is b the byte at `at`?
-fn at_byte(text: &[u8], at: usize, b: u8) -> bool
+pub fn at_byte(text: &[u8], at: usize, b: u8) -> bool
     ensures { λ r. ⌜ r ≡ isByte b (byteAt (drop at (now (text .entry)))) ⌝ }
 {
     if at < text.len() {
@@ -466,6 +530,16 @@ pub fn refuse(p: Parsed, e: u64) -> Parsed
 {
     match p {
         Parsed::Ok(c) => Parsed::Refused(e, c.at),
+        Parsed::Refused(e2, q) => Parsed::Refused(e2, q),
+    }
+}
+
+// A refusal at a place before the cursor.
+pub fn refuse_at(p: Parsed, e: u64, at: usize) -> Parsed
+    ensures { λ r. ⌜ r ≡ refusedAt e at p ⌝ }
+{
+    match p {
+        Parsed::Ok(c) => Parsed::Refused(e, at),
         Parsed::Refused(e2, q) => Parsed::Refused(e2, q),
     }
 }

@@ -8,7 +8,7 @@ ghost use lib.ListN.{set};
 ghost use Rattle.lexer.specs.Step.{bumped, pushed, pushes, headerOf, closes, patches, replaced, replaces, backTo, restarted, joined};
 
 // One more, up to 2^32.
-fn bump(w: usize) -> usize
+pub fn bump(w: usize) -> usize
     ensures { λ r. ⌜ r ≡ bumped w ⌝ }
 {
     if w < 4294967296 { w + 1 } else { w }

@@ -1,12 +1,10 @@
 -- The significand found bit by bit: what each turn keeps.
 -- Assumes nothing.
-use mathlib.Core.Path.{_≡_, refl, sym, ap, _∙_, subst}
-use Prim.Native.Nat.{ℕ, suc, _+_, _*_, _^_, _<_, _≤_}
-use native.Mathlib.Nat.{le-trans, le-of-eq, le-of-lt, lt-of-le-of-lt, lt-of-lt-of-le, add-mul, one-mul, mul-one, mul-le-mul-left, mul-le-mul-right, pow-succ', mul-left-comm}
+use mathlib.Core.Path.{_≡_, sym, ap, _∙_, subst}
+use Prim.Native.Nat.{ℕ, _+_, _*_, _^_, _<_, _≤_}
+use native.Mathlib.Nat.{le-trans, le-of-eq, lt-of-le-of-lt, lt-of-lt-of-le, one-mul, mul-le-mul-left, mul-le-mul-right, pow-succ', mul-left-comm}
 use native.Mathlib.Numerals.{add-one}
-use native.Mathlib.Omega.{arith}
 use lib.Arith.{digits-lt}
-use lib.Dec.{lit≤}
 use Rattle.literals.proofs.Powers.{pow-lt-cancel}
 
 -- while the quotient has fewer than 53 bits, fewer than 104 were added

@@ -2,10 +2,10 @@
 -- Assumes nothing.
 use mathlib.Core.Path.{_≡_, refl, sym, ap, ap₂, _∙_}
 use Prim.Native.Nat.{ℕ, _+_, _*_, _/_, _%_, _^_, _<_, _≤_}
-use native.Mathlib.Nat.{add-assoc, add-comm, add-left-comm, mul-assoc, mul-comm, mul-left-comm, mul-add, add-mul, mod-lt, div-add-mod', lt-of-le-of-lt, lt-of-lt-of-le, le-of-lt, mul-le-mul, mul-le-mul-left, mul-lt-mul-of-pos-right, lt-of-mul-lt-mul-right, div-lt-iff-lt-mul}
+use native.Mathlib.Nat.{add-assoc, add-comm, add-left-comm, mul-assoc, mul-comm, mul-left-comm, mul-add, add-mul, mod-lt, div-add-mod', lt-of-le-of-lt, le-of-lt, mul-le-mul-left, mul-lt-mul-of-pos-right, lt-of-mul-lt-mul-right, div-lt-iff-lt-mul}
 use native.Mathlib.Omega.{arith}
 use lib.Arith.{digits-lt}
-use lib.Dec.{lit<, lit≤}
+use lib.Dec.{lit<}
 use Rattle.literals.specs.Decimals.{Product}
 
 -- four regroupings of sums and products, which `simp` sorts
@@ -14,13 +14,13 @@ step₁ : (P a₀ a₁ b₀ b₁ : ℕ) → (a₁ * P + a₀) * (b₁ * P + b₀
 step₁ P a₀ a₁ b₀ b₁ = simp (mul-add, add-mul, mul-assoc, mul-comm, mul-left-comm, add-assoc, add-comm, add-left-comm) refl
 
 step₂ : (P a₀ a₁ b₀ b₁ q₀ r₀ : ℕ) → a₁ * b₁ * (P * P) + a₁ * b₀ * P + a₀ * b₁ * P + (q₀ * P + r₀) ≡ a₁ * b₁ * (P * P) + (a₁ * b₀ + q₀) * P + a₀ * b₁ * P + r₀
-step₂ P a₀ a₁ b₀ b₁ q₀ r₀ = simp (mul-add, add-mul, mul-assoc, mul-comm, mul-left-comm, add-assoc, add-comm, add-left-comm) refl
+step₂ P a₀ a₁ b₀ b₁ q₀ r₀ = simp (add-mul, mul-assoc, mul-comm, mul-left-comm, add-assoc, add-comm, add-left-comm) refl
 
 step₃ : (P a₀ a₁ b₁ r₀ q r : ℕ) → a₁ * b₁ * (P * P) + (q * P + r) * P + a₀ * b₁ * P + r₀ ≡ a₁ * b₁ * (P * P) + q * (P * P) + (r + a₀ * b₁) * P + r₀
-step₃ P a₀ a₁ b₁ r₀ q r = simp (mul-add, add-mul, mul-assoc, mul-comm, mul-left-comm, add-assoc, add-comm, add-left-comm) refl
+step₃ P a₀ a₁ b₁ r₀ q r = simp (add-mul, mul-assoc, mul-comm, mul-left-comm, add-assoc, add-comm, add-left-comm) refl
 
 step₄ : (P a₁ b₁ r₀ q q₁ r₁ : ℕ) → a₁ * b₁ * (P * P) + q * (P * P) + (q₁ * P + r₁) * P + r₀ ≡ (a₁ * b₁ + q + q₁) * (P * P) + (r₁ * P + r₀)
-step₄ P a₁ b₁ r₀ q q₁ r₁ = simp (mul-add, add-mul, mul-assoc, mul-comm, mul-left-comm, add-assoc, add-comm, add-left-comm) refl
+step₄ P a₁ b₁ r₀ q q₁ r₁ = simp (add-mul, mul-assoc, mul-comm, mul-left-comm, add-assoc, add-comm, add-left-comm) refl
 
 -- the product by its columns, given each column's carry and digit
 columns : (P a₀ a₁ b₀ b₁ q₀ r₀ q r q₁ r₁ : ℕ) → a₀ * b₀ ≡ q₀ * P + r₀ → a₁ * b₀ + q₀ ≡ q * P + r → r + a₀ * b₁ ≡ q₁ * P + r₁ →

@@ -1,30 +1,30 @@
 -- Digits w fold to the number that w writes, and a decimal is the float that 01 says.
 -- Assumes nothing.
-use mathlib.Core.Path.{_≡_, refl, sym, ap, ap₂, _∙_, subst}
-use mathlib.Core.Bool.{Bool, true, false, _&&_, _||_}
+use mathlib.Core.Bool.{Bool, true, false, _||_}
 use mathlib.Core.List.{List, [], _∷_}
 use mathlib.Core.Logic.{_⊎_, inl, inr}
-use mathlib.Core.Option.{Option, none, some}
-use Prim.Native.Nat.{ℕ, zero, suc, _+_, _-_, _*_, _/_, _%_, _^_, _<_, _≤_, zero-le}
+use mathlib.Core.Option.{none}
+use mathlib.Core.Path.{_≡_, refl, sym, ap, ap₂, _∙_, subst}
+use Prim.Native.Nat.{ℕ, zero, suc, _+_, _*_, _/_, _%_, _^_, _<_, _≤_, zero-le}
 use native.Mathlib.Nat.{le-trans, le-of-eq, lt-of-le-of-lt, lt-of-lt-of-le, lt-of-not-le, not-le-of-lt, not-suc-le-zero, le-of-suc-le-suc, add-zero, zero-add, add-assoc, mul-one, one-mul, mul-assoc, mul-comm, mul-le-mul-left, mul-le-mul-right, pow-suc, pow-le-pow-right, mul-mod-left, mul-div-cancel, mul-add-mod-self-right, mod-eq-of-lt}
 use native.Mathlib.Numerals.{add-one}
 use native.Mathlib.Omega.{arith}
 use lib.Dec.{ltb, leb, eqb, lit<, lit≤}
 use lib.ListN.{length}
 use lib.Pow.{pow-add}
-use borrow.Author.Tests.{lt-ltb, le-ltb, le-leb, lt-leb, eq-eqb, ne-eqb, ltb-true, ltb-false, leb-true, leb-false, eqb-true, eqb-false}
+use borrow.Author.Tests.{le-ltb, le-leb, eq-eqb, ne-eqb, ltb-true, ltb-false, leb-true, leb-false, eqb-true, eqb-false}
 use Rattle.program.specs.Bytes.{byte}
-use Rattle.program.specs.Choice.{pick, test}
+use Rattle.program.specs.Choice.{pick}
 use Rattle.program.specs.Class.{classOf, isDigit}
 use Rattle.grammar.specs.Numbers.{valueOf, countDigits, most64, zerosOf, scaledBits, decimalBits, Numeral, digitsOf, upOf, downOf, floatOf}
+use Rattle.literals.specs.Decimals.{counted, noDigits, fewDigits, significantPushed, digitPushed, poweredBits, exponentBits, floatIn}
 use Rattle.literals.specs.Folds.{folded, allDigits}
 use Rattle.literals.specs.Integers.{capped, shifted}
-use Rattle.literals.specs.Decimals.{counted, noDigits, manyDigits, fewDigits, significantPushed, digitPushed, poweredBits, exponentBits, floatIn}
 use Rattle.literals.specs.declared.mantissa.Mantissa.{Mantissa}
 use Rattle.literals.specs.declared.number.Number.{Number}
-use Rattle.literals.specs.declared.number.Number.the-variants.{Exact, Over}
+use Rattle.literals.proofs.Folds.{and-left, and-right}
 use Rattle.literals.proofs.Integers.{number-value}
-use Rattle.literals.proofs.Scale.{counted-le, counted-same, counted-most, no-digits, no-high, no-low}
+use Rattle.literals.proofs.Scale.{counted-same, counted-most, no-digits, no-high, no-low}
 
 ten-more : (x z : ℕ) → x * 10 ^ z * 10 ≡ x * 10 ^ (z + 1)
 ten-more x z = mul-assoc x (10 ^ z) 10 ∙ ap (λ (y : ℕ). x * y) (sym (pow-suc 10 z) ∙ ap (λ (y : ℕ). 10 ^ y) (sym (add-one z)))
@@ -166,14 +166,6 @@ holds-more s m d h a = go (eqb d 0) refl a
         })
 
 -- what a digit or an underscore is
-and-left : (a b : Bool) → (a && b) ≡ true → a ≡ true
-and-left true b e = refl
-and-left false b e = e
-
-and-right : (a b : Bool) → (a && b) ≡ true → b ≡ true
-and-right true b e = e
-and-right false b e = let z : false ≡ true = e in cc
-
 digit-of : (x : ℕ) (r : List ℕ) → allDigits (x ∷ r) ≡ true → eqb x (byte "_") ≡ false → classOf x < 10
 unfolding allDigits isDigit
 digit-of x r a e = ltb-true (classOf x) 10 (or-left (ltb (classOf x) 10) (eqb x (byte "_")) (and-left (isDigit x || eqb x (byte "_")) (allDigits r) a) e)

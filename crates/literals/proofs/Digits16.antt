@@ -1,33 +1,25 @@
 -- Hex digits w fold to the number that w writes, and the literal is what 01 says of w.
 -- Assumes nothing.
-use mathlib.Core.Path.{_≡_, refl, sym, ap, _∙_, subst}
-use mathlib.Core.Bool.{Bool, true, false, _&&_}
+use mathlib.Core.Bool.{Bool, true, false}
 use mathlib.Core.List.{List, [], _∷_}
-use Prim.Native.Nat.{ℕ, zero, suc, _+_, _-_, _*_, _/_, _%_, _^_, _<_, _≤_}
+use mathlib.Core.Path.{_≡_, refl, sym, ap, _∙_, subst}
+use Prim.Native.Nat.{ℕ, _+_, _*_, _^_, _<_, _≤_}
 use native.Mathlib.Nat.{le-trans, lt-of-lt-of-le, add-zero, zero-add, add-suc, suc-add, pow-suc, pow-le-pow-right, mod-eq-of-lt}
 use native.Mathlib.Numerals.{add-one}
 use native.Mathlib.Omega.{arith}
 use lib.Arith.{digits-lt}
-use lib.Dec.{ltb, leb, eqb, lit<, lit≤}
+use lib.Dec.{ltb, eqb, lit<, lit≤}
 use lib.ListN.{length}
 use borrow.Author.Tests.{lt-ltb, le-ltb, le-leb, lt-leb, ltb-true, ltb-false, eqb-true}
 use Rattle.program.specs.Choice.{pick}
 use Rattle.program.specs.Class.{classOf, isHex}
-use Rattle.program.specs.Prog.{Prog, ret}
+use Rattle.program.specs.Prog.{ret}
 use Rattle.grammar.specs.Lexer.{refuse}
 use Rattle.grammar.specs.Numbers.{hexOf, inside, widen, float}
-use Rattle.grammar.specs.Numbers.{Literal as Written}
 use Rattle.literals.specs.Hex.{hexHeld, hexPushed, hexFolded, allHex}
 use Rattle.literals.specs.Literals.{given, hexLiteral, f0xLiteral}
 use Rattle.literals.specs.declared.literal.Literal.the-variants.{Float, Refused}
-
-and-left : (a b : Bool) → (a && b) ≡ true → a ≡ true
-and-left true b e = refl
-and-left false b e = e
-
-and-right : (a b : Bool) → (a && b) ≡ true → b ≡ true
-and-right true b e = e
-and-right false b e = let z : false ≡ true = e in cc
+use Rattle.literals.proofs.Folds.{and-left, and-right}
 
 more-small : (v n d : ℕ) → v < 16 ^ n → d < 16 → v * 16 + d < 16 ^ (n + 1)
 more-small v n d h k = rw (add-one n, pow-suc 16 n) (digits-lt h k)

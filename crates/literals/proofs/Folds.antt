@@ -1,8 +1,8 @@
 -- A fold of digits: cut anywhere, the rest goes on from the first part's state; and what holds a number holds the number that digits write.
 -- Assumes nothing.
-use mathlib.Core.Path.{_≡_, refl, sym, ap, _∙_}
-use mathlib.Core.Bool.{Bool, true, false}
+use mathlib.Core.Bool.{Bool, true, false, _&&_}
 use mathlib.Core.List.{List, [], _∷_, _++_}
+use mathlib.Core.Path.{_≡_, refl, sym, ap, _∙_}
 use Prim.Native.Nat.{ℕ, _+_, _*_}
 use lib.Dec.{eqb}
 use Rattle.program.specs.Bytes.{byte}
@@ -28,3 +28,12 @@ module _ {S : Type 0} (more : S → ℕ → S) (holds : ℕ → S) (step : (v d 
       ap (λ (s : S). folded more (pick (eqb x (byte "_")) (holds v) s) r) (step v (classOf x))
       ∙ ap (λ (s : S). folded more s r) (sym (picked holds (eqb x (byte "_")) v (v * 10 + classOf x)))
       ∙ holds-value r (pick (eqb x (byte "_")) v (v * 10 + classOf x))
+
+-- both hold
+pub and-left : (a b : Bool) → (a && b) ≡ true → a ≡ true
+and-left true b e = refl
+and-left false b e = e
+
+pub and-right : (a b : Bool) → (a && b) ≡ true → b ≡ true
+and-right true b e = e
+and-right false b e = let z : false ≡ true = e in cc

@@ -1,16 +1,15 @@
 -- Numbers in two halves of 64 bits: ten times one and a digit more, the range of 128 bits, the two's complement.
 -- Assumes nothing.
-use mathlib.Core.Path.{_≡_, refl, sym, ap, _∙_}
 use mathlib.Core.Bool.{Bool, true, false}
+use mathlib.Core.Path.{_≡_, sym, ap, _∙_}
 use Prim.Native.Nat.{ℕ, suc, _+_, _-_, _*_, _/_, _%_, _^_, _<_, _≤_}
 use native.Mathlib.Nat.{add-mul, one-mul, mod-eq-of-lt, div-add-mod', mod-lt, div-lt-iff-lt-mul, mul-le-mul-right, le-trans, le-of-lt, lt-of-lt-of-le}
 use native.Mathlib.Omega.{arith}
 use lib.Arith.{digits-lt, digits-div, digits-mod}
-use lib.Dec.{leb, lit<, lit≤}
+use lib.Dec.{leb, lit<}
 use borrow.Author.Tests.{le-leb, lt-leb}
 use Rattle.grammar.specs.Numbers.{largest, twos}
 use Rattle.literals.specs.Integers.{magnitudeOf}
-use Rattle.literals.specs.declared.integer.Magnitude.{Magnitude}
 
 abbrev pub B : ℕ
 B = 4294967296

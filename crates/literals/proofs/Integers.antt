@@ -1,22 +1,20 @@
 -- The folds of integers: from nothing, digits w fold to the number that w writes.
 -- Assumes nothing.
-use mathlib.Core.Path.{_≡_, refl, sym, ap, _∙_}
 use mathlib.Core.Bool.{Bool, true, false}
-use mathlib.Core.List.{List, [], _∷_}
-use Prim.Native.Nat.{ℕ, _+_, _*_, _/_, _%_, _^_, _<_, _≤_}
+use mathlib.Core.List.{List}
+use mathlib.Core.Path.{_≡_, refl}
+use Prim.Native.Nat.{ℕ, _+_, _*_, _^_, _<_, _≤_}
 use native.Mathlib.Nat.{le-trans, div-add-mod'}
 use native.Mathlib.Omega.{arith}
 use lib.Dec.{leb}
 use borrow.Author.Tests.{le-leb, lt-leb, leb-true, leb-false}
 use Rattle.program.specs.Choice.{pick}
-use Rattle.grammar.specs.Numbers.{valueOf, largest, twos, most64, halves}
+use Rattle.grammar.specs.Numbers.{valueOf, largest, twos, most64}
 use Rattle.literals.specs.Folds.{folded}
-use Rattle.literals.specs.Integers.{magnitudeOf, pushed, heldBy, signedOf, wordsOf, capped, shifted}
-use Rattle.literals.specs.declared.integer.Magnitude.{Magnitude}
-use Rattle.literals.specs.declared.integer.Integer.{Integer}
-use Rattle.literals.specs.declared.integer.Integer.the-variants.{Value, Refused}
-use Rattle.literals.specs.declared.number.Number.{Number}
+use Rattle.literals.specs.Integers.{magnitudeOf, pushed, signedOf, wordsOf, capped, shifted}
+use Rattle.literals.specs.declared.integer.Integer.the-variants.{Refused}
 use Rattle.literals.specs.declared.number.Number.the-variants.{Exact, Over}
+use Rattle.literals.specs.declared.number.Number.{Number}
 use Rattle.literals.proofs.Folds.{holds-value}
 
 more : (v d : ℕ) → v ≤ v * 10 + d

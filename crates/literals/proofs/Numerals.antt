@@ -1,27 +1,26 @@
 -- A numeral folded in order is the literal that 01 says.
 -- Assumes nothing.
-use mathlib.Core.Path.{_≡_, refl, sym, ap, ap₂, _∙_, subst}
 use mathlib.Core.Bool.{Bool, true, false, not, _&&_, _||_}
-use mathlib.Core.List.{List, [], _∷_, _++_}
+use mathlib.Core.List.{List, [], _∷_}
 use mathlib.Core.Option.{Option, none, some}
-use Prim.Native.Nat.{ℕ, _+_, _*_, _/_, _%_, _^_, _≤_}
+use mathlib.Core.Path.{_≡_, refl, ap, _∙_, subst}
+use Prim.Native.Nat.{ℕ, _+_}
 use native.Mathlib.Omega.{arith}
 use lib.Dec.{leb, eqb}
-use lib.ListN.{length}
 use borrow.Author.Tests.{eqb-true}
 use Rattle.program.specs.Bytes.{byte}
 use Rattle.program.specs.Choice.{pick}
 use Rattle.program.specs.Class.{classOf, isDigit}
-use Rattle.program.specs.Prog.{Prog, ret}
+use Rattle.program.specs.Prog.{ret}
 use Rattle.grammar.specs.Lexer.{refuse}
 use Rattle.grammar.specs.Numbers.{Numeral, valueOf, largest, twos, halves, isEmpty, isFloat, isValid, floatOf, signed, int, float, integerOf, decimalOf, literalOf}
-use Rattle.literals.specs.Decimals.{counted, noDigits, digitPushed, floatIn}
+use Rattle.literals.specs.Decimals.{counted, digitPushed}
 use Rattle.literals.specs.Folds.{folded, begins}
 use Rattle.literals.specs.Integers.{magnitudeOf, pushed, signedOf, wordsOf, capped, shifted}
 use Rattle.literals.specs.Literals.{given}
 use Rattle.literals.specs.Numerals.{started, wholePushed, pointPassed, partPushed, exponentPassed, powerPushed, exponentOf, partOf, foldOf, floatLiteral, decimalIn, wordsLiteral, integerIn, literalIn, Written}
+use Rattle.literals.specs.declared.integer.Integer.the-variants.{Refused as Out}
 use Rattle.literals.specs.declared.integer.Integer.{Integer}
-use Rattle.literals.specs.declared.integer.Integer.the-variants.{Value, Refused as Out}
 use Rattle.literals.specs.declared.integer.Magnitude.{Magnitude}
 use Rattle.literals.specs.declared.literal.Literal.the-variants.{Refused}
 use Rattle.literals.specs.declared.numeral.Fold.{Fold}

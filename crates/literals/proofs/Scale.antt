@@ -1,17 +1,15 @@
 -- Which decimals are supported, test by test, and counts that stop at 2^62.
 -- Assumes nothing.
-use mathlib.Core.Path.{_≡_, refl, sym, ap, _∙_}
 use mathlib.Core.Bool.{Bool, true, false, _&&_}
 use mathlib.Core.Option.{Option, none, some}
+use mathlib.Core.Path.{_≡_, refl, sym}
 use Prim.Native.Nat.{ℕ, _+_, _-_, _*_, _^_, _<_, _≤_}
-use native.Mathlib.Nat.{le-trans, lt-of-le-of-lt, zero-add, add-zero, le-refl, pow-le-pow-right}
+use native.Mathlib.Nat.{lt-of-le-of-lt, zero-add, add-zero, le-refl, pow-le-pow-right}
 use native.Mathlib.Omega.{arith}
-use lib.Dec.{ltb, leb, eqb, lit<, lit≤}
-use borrow.Author.Tests.{lt-ltb, le-ltb, le-leb, lt-leb, leb-true, leb-false}
-use Rattle.program.specs.Choice.{pick}
+use lib.Dec.{ltb, leb, lit<}
+use borrow.Author.Tests.{lt-ltb, le-ltb, le-leb, lt-leb, leb-true}
 use Rattle.grammar.specs.Numbers.{nearest, scaledBits}
 use Rattle.literals.specs.Decimals.{counted, bitsOf, poweredBits}
-use Rattle.literals.specs.declared.decimal.Decimal.{Decimal}
 use Rattle.literals.specs.declared.decimal.Decimal.the-variants.{Bits, Unsupported}
 
 and-false : (a : Bool) → (a && false) ≡ false

@@ -1,14 +1,13 @@
 -- What the scans of the grammar pass over: digits and underscores that begin with a digit, and hex digits.
 -- Assumes nothing.
-use mathlib.Core.Path.{_≡_, refl, sym, ap, _∙_}
-use mathlib.Core.Bool.{Bool, true, false, _&&_, _||_}
+use mathlib.Core.Bool.{Bool, true, false}
 use mathlib.Core.List.{List, [], _∷_}
 use mathlib.Core.Option.{Option, none, some}
-use Prim.Native.Nat.{ℕ, suc}
+use mathlib.Core.Path.{_≡_, refl}
+use Prim.Native.Nat.{ℕ}
 use lib.Dec.{eqb}
 use lib.ListN.{take}
 use Rattle.program.specs.Bytes.{byte}
-use Rattle.program.specs.Choice.{pick}
 use Rattle.program.specs.Class.{isDigit, isHex}
 use Rattle.program.specs.Prog.{scanLen}
 use Rattle.grammar.specs.Numbers.{digitStep, hexStep}

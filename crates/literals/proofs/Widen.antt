@@ -1,15 +1,14 @@
 -- The bits of a binary32 widened to binary64.
 -- Assumes nothing.
-use mathlib.Core.Path.{_≡_, refl, sym, ap, _∙_, subst}
-use mathlib.Core.Bool.{true, false}
-use Prim.Native.Nat.{ℕ, zero, suc, _+_, _-_, _*_, _/_, _%_, _^_, _<_, _≤_}
+use mathlib.Core.Path.{_≡_, sym, ap, _∙_, subst}
+use Prim.Native.Nat.{ℕ, suc, _+_, _-_, _*_, _/_, _%_, _^_, _<_, _≤_}
 use native.Mathlib.Nat.{lt-of-le-of-lt, add-zero, add-mul, suc-add, sub-add-cancel, mod-eq-of-lt, lt-of-lt-of-le}
 use native.Mathlib.Omega.{arith}
-use lib.Dec.{lit<, lit≤}
 use lib.Count.{leadingZeros, leading-top}
-use lib.Pow.{pow-pos, pow-mono, pow-add, shl-lt}
+use lib.Dec.{lit≤}
+use lib.Pow.{pow-add, shl-lt}
 use borrow.Author.Tests.{eq-eqb, ne-eqb, le-leb, lt-leb}
-use Rattle.grammar.specs.Numbers.{log2, widen, widenParts}
+use Rattle.grammar.specs.Numbers.{widen, widenParts}
 use Rattle.literals.specs.Hex.{specialBits, subnormalBits}
 use Rattle.literals.proofs.Powers.{pow-lt-cancel, log2-is}
 

@@ -1,20 +1,20 @@
 -- Decimals. 01: "the binary64 nearest its value, ties to even, defined over whole numbers"; "Supported: zero, or at most 15 digits without outer
 -- zeros, times ten to the -22 up to 22."
 -- Assumes nothing.
-use mathlib.Core.Path.{_≡_}
 use mathlib.Core.Bool.{Bool, true, false}
 use mathlib.Core.Option.{Option, none, some}
+use mathlib.Core.Path.{_≡_}
 use Prim.Native.Nat.{ℕ, _+_, _*_, _^_, _<_, _≤_}
 use lib.Dec.{ltb, leb, eqb}
 use Rattle.program.specs.Choice.{pick}
 use Rattle.grammar.specs.Numbers.{scaledBits}
+use Rattle.literals.specs.declared.decimal.Decimal.the-variants.{Bits, Unsupported}
+use Rattle.literals.specs.declared.decimal.Decimal.{Decimal}
 use Rattle.literals.specs.declared.decimal.Parts.{Parts}
 use Rattle.literals.specs.declared.decimal.Significand.{Significand}
-use Rattle.literals.specs.declared.decimal.Decimal.{Decimal}
-use Rattle.literals.specs.declared.decimal.Decimal.the-variants.{Bits, Unsupported}
 use Rattle.literals.specs.declared.mantissa.Mantissa.{Mantissa}
-use Rattle.literals.specs.declared.number.Number.{Number}
 use Rattle.literals.specs.declared.number.Number.the-variants.{Exact, Over}
+use Rattle.literals.specs.declared.number.Number.{Number}
 
 -- a number's parts by d are p
 pub record Doubled (q rest d : ℕ) (p : Parts) : Type 0 where

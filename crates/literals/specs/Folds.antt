@@ -1,6 +1,6 @@
 -- Digits folded one by one, underscores passed over. 01: "A number begins with a digit; later underscores are passed over."
 -- Assumes nothing.
-use mathlib.Core.Bool.{Bool, true, false, _&&_, _||_}
+use mathlib.Core.Bool.{Bool, true, _&&_, _||_}
 use mathlib.Core.List.{List, [], _∷_}
 use Prim.Native.Nat.{ℕ}
 use lib.Dec.{eqb}

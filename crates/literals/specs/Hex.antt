@@ -1,8 +1,8 @@
 -- The bits of floats from hex digits. 01: "`0x` or `0X` takes 1 to 16 hex digits as bits; `f0x` exactly 8 (binary32 widened) or 16."
 -- Assumes nothing.
-use mathlib.Core.Bool.{Bool, true, false, _&&_}
+use mathlib.Core.Bool.{Bool, true, _&&_}
 use mathlib.Core.List.{List, [], _∷_}
-use Prim.Native.Nat.{ℕ, _+_, _-_, _*_, _/_, _%_, _^_}
+use Prim.Native.Nat.{ℕ, _+_, _-_, _*_, _%_, _^_}
 use lib.Dec.{ltb, leb, eqb}
 use Rattle.program.specs.Choice.{pick}
 use Rattle.program.specs.Class.{classOf, isHex}

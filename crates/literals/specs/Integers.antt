@@ -6,11 +6,11 @@ use Prim.Native.Nat.{ℕ, _+_, _*_, _/_, _%_, _^_}
 use lib.Dec.{leb}
 use Rattle.program.specs.Choice.{pick}
 use Rattle.grammar.specs.Numbers.{largest, twos, most64}
-use Rattle.literals.specs.declared.integer.Magnitude.{Magnitude}
-use Rattle.literals.specs.declared.integer.Integer.{Integer}
 use Rattle.literals.specs.declared.integer.Integer.the-variants.{Value, Refused}
-use Rattle.literals.specs.declared.number.Number.{Number}
+use Rattle.literals.specs.declared.integer.Integer.{Integer}
+use Rattle.literals.specs.declared.integer.Magnitude.{Magnitude}
 use Rattle.literals.specs.declared.number.Number.the-variants.{Exact, Over}
+use Rattle.literals.specs.declared.number.Number.{Number}
 
 -- a number as it is held
 unfoldable pub magnitudeOf : ℕ → Magnitude

@@ -1,17 +1,15 @@
 -- Literals from the states that digits fold to, and what 01 says of each answer.
 -- Assumes nothing.
-use mathlib.Core.Bool.{Bool, true, false}
-use mathlib.Core.List.{List, [], _∷_}
-use Prim.Native.Nat.{ℕ, _+_, _*_, _/_, _%_, _^_}
-use lib.Dec.{ltb, leb, eqb}
+use mathlib.Core.List.{[], _∷_}
+use Prim.Native.Nat.{_%_, _^_}
+use lib.Dec.{eqb}
 use Rattle.program.specs.Choice.{pick}
 use Rattle.program.specs.Prog.{Prog, ret}
 use Rattle.grammar.specs.Lexer.{refuse}
-use Rattle.grammar.specs.Numbers.{int, float, inside, widen}
-use Rattle.grammar.specs.Numbers.{Literal as Written}
+use Rattle.grammar.specs.Numbers.{int, float, inside, widen, Literal as Written}
 use Rattle.literals.specs.declared.hex.Hex.{Hex}
-use Rattle.literals.specs.declared.literal.Literal.{Literal}
 use Rattle.literals.specs.declared.literal.Literal.the-variants.{Int, Float, Refused}
+use Rattle.literals.specs.declared.literal.Literal.{Literal}
 
 -- each answer as a program: the literal, or the question at the cursor
 unfoldable pub given : Literal → Prog Written

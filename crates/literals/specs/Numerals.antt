@@ -1,21 +1,20 @@
 -- A numeral's state, and the literal that it is. 01: "A numeral is valid with a digit before or behind its point and, with `e` or `E`, one behind
 -- that. One with `.`, `e` or `E` is the binary64 nearest its value"; questions 7 and 17.
 -- Assumes nothing.
-use mathlib.Core.Path.{_≡_}
 use mathlib.Core.Bool.{Bool, true, false, not, _&&_, _||_}
-use mathlib.Core.List.{List, [], _∷_}
+use mathlib.Core.List.{[]}
 use mathlib.Core.Option.{Option, none, some}
+use mathlib.Core.Path.{_≡_}
 use Prim.Native.Nat.{ℕ, _+_, _≤_, _^_}
 use lib.ListN.{length}
-use Rattle.program.specs.Choice.{pick}
 use Rattle.grammar.specs.Numbers.{Numeral, signed}
 use Rattle.literals.specs.Decimals.{counted, noDigits, digitPushed, floatIn}
 use Rattle.literals.specs.Folds.{folded, allDigits, begins}
 use Rattle.literals.specs.Integers.{magnitudeOf, pushed, signedOf, capped, shifted}
-use Rattle.literals.specs.declared.integer.Integer.{Integer}
 use Rattle.literals.specs.declared.integer.Integer.the-variants.{Value, Refused as Out}
-use Rattle.literals.specs.declared.literal.Literal.{Literal}
+use Rattle.literals.specs.declared.integer.Integer.{Integer}
 use Rattle.literals.specs.declared.literal.Literal.the-variants.{Int, Float, Refused}
+use Rattle.literals.specs.declared.literal.Literal.{Literal}
 use Rattle.literals.specs.declared.numeral.Fold.{Fold}
 
 unfoldable pub started : Fold

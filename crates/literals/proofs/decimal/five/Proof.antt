@@ -1,14 +1,14 @@
-use Rattle.literals.proofs.Table.{at}
-use lib.ListN.{getD}
-use lib.Dec.{eqb, eqb→eq}
-use Prim.Native.Nat.{ℕ, _^_}
+-- The rule of the table of powers, tested at each of its 23 entries.
+-- Assumes nothing.
 use mathlib.Core.Bool.{Bool}
 use mathlib.Core.List.{List, [], _∷_}
+use Prim.Native.Nat.{ℕ, _^_}
+use lib.Dec.{eqb, eqb→eq}
+use lib.ListN.{getD}
 use borrow.Author.Needs.{needs}
+use Rattle.literals.proofs.Table.{at}
 use Rattle.literals.proofs.decimal.five.Statement.{statement}
 use Rattle.literals.proofs.decimal.five.Tie as tie
-use Rattle.literals.proofs.decimal.five.Reads as reads
-use Rattle.literals.proofs.decimal.five.Lts as lts
 
 powers : List ℕ
 powers =
@@ -18,18 +18,9 @@ powers =
 right : ℕ → ℕ → Bool
 right k x = eqb x (5 ^ k)
 
--- src/decimal.rt:39:5
-mul-result : tie.Need-mul-result
-mul-result c = search needs
-
--- src/decimal.rt:39:5
-array-read-result : tie.Need-array-read-result
-array-read-result c = search needs
-
--- src/decimal.rt:35:1
 returns : tie.Need-returns
 unfolding powers right
 returns c = eqb→eq (getD powers (c .args .k) 0) (5 ^ c .args .k) (at right powers tt (c .args .k) (search needs))
 
 pub five-spec : {M : Type 1} → statement M
-five-spec = tie.close (tie.spec mul-result array-read-result returns)
+five-spec = tie.close (tie.spec (λ c. search needs) (λ c. search needs) returns)

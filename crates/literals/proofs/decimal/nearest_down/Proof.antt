@@ -1,20 +1,17 @@
-use Rattle.literals.proofs.Nearest.{fives-small, fives-pos, down-is}
-use Rattle.literals.specs.declared.decimal.Significand.{Significand}
-use Rattle.literals.specs.Decimals.{Scaled}
-use Rattle.grammar.specs.Numbers.{rounded, nearest}
-use lib.Dec.{lit<, lit≤}
-use native.Mathlib.Omega.{arith}
-use native.Mathlib.Nat.{mod-lt, div-le-self, div-add-mod', lt-of-le-of-lt, lt-of-lt-of-le, le-of-lt}
-use Prim.Native.Nat.{ℕ, _+_, _-_, _*_, _/_, _%_, _^_, _<_, _≤_}
+-- m and its n more bits, divided by five to the k: `down-is`.
+-- Assumes nothing.
 use mathlib.Core.Path.{_≡_, sym, ap, _∙_, subst}
+use Prim.Native.Nat.{ℕ, _+_, _-_, _*_, _/_, _%_, _^_, _<_, _≤_}
+use native.Mathlib.Nat.{mod-lt, div-le-self, div-add-mod', lt-of-le-of-lt, lt-of-lt-of-le, le-of-lt}
+use native.Mathlib.Omega.{arith}
+use lib.Dec.{lit≤}
 use borrow.Author.Needs.{needs}
+use Rattle.grammar.specs.Numbers.{rounded, nearest}
+use Rattle.literals.specs.Decimals.{Scaled}
+use Rattle.literals.specs.declared.decimal.Significand.{Significand}
+use Rattle.literals.proofs.Nearest.{fives-small, fives-pos, down-is}
 use Rattle.literals.proofs.decimal.nearest_down.Statement.{statement}
 use Rattle.literals.proofs.decimal.nearest_down.Tie as tie
-use Rattle.literals.proofs.decimal.nearest_down.Reads as reads
-use Rattle.literals.proofs.decimal.nearest_down.Lts as lts
-use Rattle.literals.proofs.decimal.five.Reads as five-reads
-use Rattle.literals.proofs.decimal.rounding.Reads as rounding-reads
-use Rattle.literals.proofs.decimal.scaled.Reads as scaled-reads
 
 bits : (m k d x : ℕ) (s : Significand) → k < 23 → d ≡ 5 ^ k → Scaled (m / d * d + m % d) d s → x ≡ rounded (s .q) (s .rest) d → x ≤ 2 ^ 53 →
     ((1074 - k - s .n) * 4503599627370496 + x ≡ nearest m (10 ^ k)) × ((1074 - k - s .n) * 4503599627370496 + x < 2 ^ 63)
@@ -31,46 +28,21 @@ above c = rw (c .five .ensures) (fives-pos (c .before .args .k))
 below : (c : tie.After-five) → c .five .result < 2 ^ 52
 below c = rw (c .five .ensures) (fives-small (c .before .args .k) (c .before .pre .2))
 
--- src/decimal.rt:140:9
-five-requires : tie.Need-five-requires
-five-requires c κs = search needs
-
--- src/decimal.rt:141:20
 div-scaled : tie.Need-div-scaled
 div-scaled c = above c
 
--- src/decimal.rt:141:27
 rem-scaled : tie.Need-rem-scaled
 rem-scaled c = above c
 
--- src/decimal.rt:141:9
 scaled-requires : tie.Need-scaled-requires
 scaled-requires c κs =
     let m = c .before .args .m in
     let d = c .five .result in
     (subst (λ (x : ℕ). 0 < x) (sym (div-add-mod' m d)) (c .before .pre .0), lt-of-le-of-lt (div-le-self m d) (lt-of-lt-of-le (c .before .pre .1) (lit≤ tt)), mod-lt m (above c), le-of-lt (below c))
 
--- src/decimal.rt:142:6
-sub-result : tie.Need-sub-result
-sub-result c = search needs
-
--- src/decimal.rt:142:6
-sub-result-2 : tie.Need-sub-result-2
-sub-result-2 c = search needs
-
--- src/decimal.rt:142:5
-mul-result : tie.Need-mul-result
-mul-result c = search needs
-
--- src/decimal.rt:142:50
 rounding-requires : tie.Need-rounding-requires
 rounding-requires c κs = (c .before .scaled .ensures .short, (let k = below (c .before .before) in let h = c .before .scaled .ensures .left in omega arith))
 
--- src/decimal.rt:142:5
-add-result : tie.Need-add-result
-add-result c = search needs
-
--- src/decimal.rt:136:1
 returns : tie.Need-returns
 returns c = bits (c .before .before .before .before .args .m) (c .before .before .before .before .args .k) (c .before .before .before .five .result) (c .rounding .result) (c .before .before .scaled .result) (c .before .before .before .before .pre .2) (c .before .before .before .five .ensures) (c .before .before .scaled .ensures) (c .rounding .ensures .0) (c .rounding .ensures .1)
 
@@ -78,13 +50,13 @@ pub nearest-down-spec : {M : Type 1} → statement M
 nearest-down-spec =
     tie.close
     (tie.spec
-    five-requires
+    (λ c κs. search needs)
     div-scaled
     rem-scaled
     scaled-requires
-    sub-result
-    sub-result-2
-    mul-result
+    (λ c. search needs)
+    (λ c. search needs)
+    (λ c. search needs)
     rounding-requires
-    add-result
+    (λ c. search needs)
     returns)

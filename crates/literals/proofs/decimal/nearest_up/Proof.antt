@@ -1,21 +1,17 @@
-use Rattle.literals.proofs.Nearest.{fives-small, fives-pos, up-is}
-use Rattle.literals.specs.declared.decimal.Significand.{Significand}
-use Rattle.literals.specs.Decimals.{Scaled}
-use Rattle.grammar.specs.Numbers.{rounded, nearest}
-use lib.Dec.{lit<, lit≤}
-use native.Mathlib.Omega.{arith}
-use native.Mathlib.Nat.{mul-pos, lt-of-lt-of-le, le-of-lt}
-use Prim.Native.Nat.{ℕ, _+_, _-_, _*_, _/_, _%_, _^_, _<_, _≤_}
+-- m times five to the k in halves of 52 bits, and n more bits: `up-is`.
+-- Assumes nothing.
 use mathlib.Core.Path.{_≡_, sym, ap, _∙_, subst}
+use Prim.Native.Nat.{ℕ, _+_, _-_, _*_, _^_, _<_, _≤_}
+use native.Mathlib.Nat.{mul-pos, lt-of-lt-of-le}
+use native.Mathlib.Omega.{arith}
+use lib.Dec.{lit≤}
 use borrow.Author.Needs.{needs}
+use Rattle.grammar.specs.Numbers.{rounded, nearest}
+use Rattle.literals.specs.Decimals.{Scaled}
+use Rattle.literals.specs.declared.decimal.Significand.{Significand}
+use Rattle.literals.proofs.Nearest.{fives-small, fives-pos, up-is}
 use Rattle.literals.proofs.decimal.nearest_up.Statement.{statement}
 use Rattle.literals.proofs.decimal.nearest_up.Tie as tie
-use Rattle.literals.proofs.decimal.nearest_up.Reads as reads
-use Rattle.literals.proofs.decimal.nearest_up.Lts as lts
-use Rattle.literals.proofs.decimal.five.Reads as five-reads
-use Rattle.literals.proofs.decimal.product.Reads as product-reads
-use Rattle.literals.proofs.decimal.rounding.Reads as rounding-reads
-use Rattle.literals.proofs.decimal.scaled.Reads as scaled-reads
 
 bits : (m k d v x : ℕ) (s : Significand) → k < 23 → d ≡ 5 ^ k → v ≡ m * d → Scaled v (2 ^ 52) s → x ≡ rounded (s .q) (s .rest) (2 ^ 52) → x ≤ 2 ^ 53 →
     ((1126 + k - s .n) * 4503599627370496 + x ≡ nearest (m * 10 ^ k) 1) × ((1126 + k - s .n) * 4503599627370496 + x < 2 ^ 63)
@@ -29,39 +25,12 @@ bits m k d v x s small e f h p l =
 above : (c : tie.After-five) → 0 < c .five .result
 above c = rw (c .five .ensures) (fives-pos (c .before .args .k))
 
--- src/decimal.rt:130:24
-five-requires : tie.Need-five-requires
-five-requires c κs = search needs
-
--- src/decimal.rt:130:9
 product-requires : tie.Need-product-requires
 product-requires c κs = (lt-of-lt-of-le (c .before .pre .1) (lit≤ tt), rw (c .five .ensures) (fives-small (c .before .args .k) (c .before .pre .2)))
 
--- src/decimal.rt:131:9
 scaled-requires : tie.Need-scaled-requires
 scaled-requires c κs = (subst (λ (x : ℕ). 0 < x) (sym (c .product .ensures .value)) (mul-pos (c .before .before .pre .0) (above (c .before))), search needs, c .product .ensures .left, lit≤ tt)
 
--- src/decimal.rt:132:6
-add-result : tie.Need-add-result
-add-result c = search needs
-
--- src/decimal.rt:132:6
-sub-result : tie.Need-sub-result
-sub-result c = search needs
-
--- src/decimal.rt:132:5
-mul-result : tie.Need-mul-result
-mul-result c = search needs
-
--- src/decimal.rt:132:50
-rounding-requires : tie.Need-rounding-requires
-rounding-requires c κs = search needs
-
--- src/decimal.rt:132:5
-add-result-2 : tie.Need-add-result-2
-add-result-2 c = search needs
-
--- src/decimal.rt:126:1
 returns : tie.Need-returns
 returns c = bits (c .before .before .before .before .before .args .m) (c .before .before .before .before .before .args .k) (c .before .before .before .before .five .result) _ (c .rounding .result) (c .before .before .scaled .result) (c .before .before .before .before .before .pre .2) (c .before .before .before .before .five .ensures) (c .before .before .before .product .ensures .value) (c .before .before .scaled .ensures) (c .rounding .ensures .0) (c .rounding .ensures .1)
 
@@ -69,12 +38,12 @@ pub nearest-up-spec : {M : Type 1} → statement M
 nearest-up-spec =
     tie.close
     (tie.spec
-    five-requires
+    (λ c κs. search needs)
     product-requires
     scaled-requires
-    add-result
-    sub-result
-    mul-result
-    rounding-requires
-    add-result-2
+    (λ c. search needs)
+    (λ c. search needs)
+    (λ c. search needs)
+    (λ c κs. search needs)
+    (λ c. search needs)
     returns)

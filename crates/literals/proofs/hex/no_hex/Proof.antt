@@ -1,11 +1,10 @@
-use Rattle.literals.specs.Hex.{hexHeld}
+-- No digits.
+-- Assumes nothing.
 use mathlib.Core.Path.{refl}
+use Rattle.literals.specs.Hex.{hexHeld}
 use Rattle.literals.proofs.hex.no_hex.Statement.{statement}
 use Rattle.literals.proofs.hex.no_hex.Tie as tie
-use Rattle.literals.proofs.hex.no_hex.Reads as reads
-use Rattle.literals.proofs.hex.no_hex.Lts as lts
 
--- src/hex.rt:15:1
 returns : tie.Need-returns
 unfolding hexHeld
 returns c = refl

@@ -1,15 +1,14 @@
-use Rattle.literals.proofs.Widen.{zeros-many, shifted-small, shift-exact, subnormal-is}
-use Rattle.literals.specs.Hex.{subnormalBits}
-use lib.Count.{leadingZeros}
+-- The count of leading zeros gives the place of the highest bit, and that the exponent: `subnormal-is`.
+-- Assumes nothing.
+use mathlib.Core.Path.{_≡_}
+use Prim.Native.Nat.{ℕ, _+_, _-_, _*_, _%_, _^_, _<_}
 use native.Mathlib.Omega.{arith}
-use Prim.Native.Nat.{ℕ, _+_, _-_, _*_, _%_, _^_, _<_, _≤_}
-use mathlib.Core.Path.{_≡_, ap, _∙_}
+use lib.Count.{leadingZeros}
 use borrow.Author.Needs.{needs}
+use Rattle.literals.specs.Hex.{subnormalBits}
+use Rattle.literals.proofs.Widen.{zeros-many, shifted-small, shift-exact, subnormal-is}
 use Rattle.literals.proofs.hex.subnormal.Statement.{statement}
 use Rattle.literals.proofs.hex.subnormal.Tie as tie
-use Rattle.literals.proofs.hex.subnormal.Reads as reads
-use Rattle.literals.proofs.hex.subnormal.Lts as lts
-use Rattle.literals.proofs.hex.wide32.Reads as wide32-reads
 
 -- what the function computes, by the count and the fraction as they were handed on
 bits : (f z g : ℕ) → 0 < f → f < 2 ^ 23 → z ≡ leadingZeros 32 f → g ≡ f →
@@ -19,39 +18,21 @@ bits f z g pos small p q =
     rw (p, q, shift-exact f pos small)
     (subnormal-is f pos small, (let a = zeros-many f pos small in let b = shifted-small f pos small in omega arith))
 
--- src/hex.rt:48:12
-wide32-requires : tie.Need-wide32-requires
-wide32-requires c κs = search needs
-
--- src/hex.rt:48:6
 sub-result : tie.Need-sub-result
 sub-result c = (let a = zeros-many (c .before .args .f) (c .before .pre .0) (c .before .pre .1) in omega arith)
 
--- src/hex.rt:48:5
-mul-result : tie.Need-mul-result
-mul-result c = search needs
-
--- src/hex.rt:48:45
-wide32-requires-2 : tie.Need-wide32-requires-2
-wide32-requires-2 c κs = search needs
-
--- src/hex.rt:48:59
 add-result : tie.Need-add-result
 add-result c = (let a = zeros-many (c .before .before .args .f) (c .before .before .pre .0) (c .before .before .pre .1) in omega arith)
 
--- src/hex.rt:48:59
 cast-result : tie.Need-cast-result
 cast-result c = (let a = zeros-many (c .before .before .args .f) (c .before .before .pre .0) (c .before .before .pre .1) in omega arith)
 
--- src/hex.rt:48:45
 shl-result : tie.Need-shl-result
 shl-result c = (let a = zeros-many (c .before .before .args .f) (c .before .before .pre .0) (c .before .before .pre .1) in omega arith)
 
--- src/hex.rt:48:5
 add-result-2 : tie.Need-add-result-2
 add-result-2 c = omega (arith, bits (c .before .before .args .f) (c .before .wide32 .result) (c .wide322 .result) (c .before .before .pre .0) (c .before .before .pre .1) (c .before .wide32 .ensures) (c .wide322 .ensures))
 
--- src/hex.rt:43:1
 returns : tie.Need-returns
 returns c = bits (c .before .before .args .f) (c .before .wide32 .result) (c .wide322 .result) (c .before .before .pre .0) (c .before .before .pre .1) (c .before .wide32 .ensures) (c .wide322 .ensures)
 
@@ -59,10 +40,10 @@ pub subnormal-spec : {M : Type 1} → statement M
 subnormal-spec =
     tie.close
     (tie.spec
-    wide32-requires
+    (λ c κs. search needs)
     sub-result
-    mul-result
-    wide32-requires-2
+    (λ c. search needs)
+    (λ c κs. search needs)
     add-result
     cast-result
     shl-result

@@ -1,29 +1,23 @@
-use Rattle.literals.proofs.Halves.{H, small-in, top-in, large-out, larger-out, top-out}
+-- The high half decides, but for the lowest number.
+-- Assumes nothing.
+use mathlib.Core.Path.{sym}
 use native.Mathlib.Omega.{arith}
-use Prim.Native.Nat.{_<_}
-use mathlib.Core.Path.{_≡_, sym}
+use Rattle.literals.proofs.Halves.{small-in, top-in, large-out, larger-out, top-out}
 use Rattle.literals.proofs.integer.in_range.Statement.{statement}
 use Rattle.literals.proofs.integer.in_range.Tie as tie
-use Rattle.literals.proofs.integer.in_range.Reads as reads
-use Rattle.literals.proofs.integer.in_range.Lts as lts
 
--- src/integer.rt:86:9
 returns : tie.Need-returns
 returns c = sym (small-in (c .before .args .neg) (c .before .args .hi) (c .before .args .lo) (c .if1 .taken) (omega arith))
 
--- src/integer.rt:91:17
 returns-2 : tie.Need-returns-2
 returns-2 c = rw (c .before .before .if2 .taken) (sym (top-in (c .before .before .before .before .args .hi) (c .before .before .before .before .args .lo) (c .before .if3 .taken) (c .if4 .taken)))
 
--- src/integer.rt:93:13
 returns-3 : tie.Need-returns-3
 returns-3 c = rw (c .before .before .if2 .taken) (sym (top-out (c .before .before .before .before .args .hi) (c .before .before .before .before .args .lo) (c .before .if3 .taken) (c .if4 .left)))
 
--- src/integer.rt:95:9
 returns-4 : tie.Need-returns-4
 returns-4 c = rw (c .before .if2 .taken) (sym (larger-out (c .before .before .before .args .hi) (c .before .before .before .args .lo) (omega arith)))
 
--- src/integer.rt:82:1
 returns-5 : tie.Need-returns-5
 returns-5 c = rw (c .if2 .left) (sym (large-out (c .before .before .args .hi) (c .before .before .args .lo) (c .before .if1 .left)))
 

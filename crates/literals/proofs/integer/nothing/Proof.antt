@@ -1,11 +1,10 @@
-use Rattle.literals.specs.Integers.{magnitudeOf}
+-- No digits.
+-- Assumes nothing.
 use mathlib.Core.Path.{refl}
+use Rattle.literals.specs.Integers.{magnitudeOf}
 use Rattle.literals.proofs.integer.nothing.Statement.{statement}
 use Rattle.literals.proofs.integer.nothing.Tie as tie
-use Rattle.literals.proofs.integer.nothing.Reads as reads
-use Rattle.literals.proofs.integer.nothing.Lts as lts
 
--- src/integer.rt:23:1
 returns : tie.Need-returns
 unfolding magnitudeOf
 returns c = refl

@@ -1,25 +1,18 @@
+-- The range, then the sign.
+-- Assumes nothing.
+use mathlib.Core.Bool.{Bool, true, false}
+use mathlib.Core.Path.{_≡_, refl, _∙_, sym}
+use Prim.Native.Nat.{_/_, _%_, _<_, ℕ, _*_, _+_}
+use native.Mathlib.Omega.{arith}
+use lib.Dec.{leb}
+use borrow.Author.Needs.{needs}
+use Rattle.grammar.specs.Numbers.{largest, twos}
+use Rattle.literals.specs.Integers.{heldBy, signedOf}
 use Rattle.literals.specs.declared.integer.Integer.the-variants.{Value}
 use Rattle.literals.specs.declared.integer.Magnitude.{Magnitude}
-use Rattle.literals.specs.Integers.{heldBy}
-use Rattle.grammar.specs.Numbers.{largest}
-use lib.Dec.{leb}
-use Prim.Native.Nat.{_/_, _%_, _<_}
-use mathlib.Core.Bool.{Bool}
 use Rattle.literals.proofs.Halves.{W, halves-are}
-use Rattle.literals.specs.Integers.{signedOf}
-use Rattle.grammar.specs.Numbers.{twos}
-use lib.Arith.{digits-div, digits-mod}
-use native.Mathlib.Omega.{arith}
-use Prim.Native.Nat.{ℕ, _*_, _+_}
-use mathlib.Core.Bool.{true, false}
-use mathlib.Core.Path.{_≡_, refl, _∙_, sym}
-use borrow.Author.Needs.{needs}
 use Rattle.literals.proofs.integer.signed.Statement.{statement}
 use Rattle.literals.proofs.integer.signed.Tie as tie
-use Rattle.literals.proofs.integer.signed.Reads as reads
-use Rattle.literals.proofs.integer.signed.Lts as lts
-use Rattle.literals.proofs.integer.in_range.Reads as in-range-reads
-use Rattle.literals.proofs.integer.negated.Reads as negated-reads
 
 gives : (neg : Bool) (a : Magnitude) (h l : ℕ) → a .over ≡ false → leb (heldBy a) (largest neg) ≡ true →
     (h ≡ twos neg (heldBy a) / W) × (l ≡ twos neg (heldBy a) % W) → Value h l ≡ signedOf neg a
@@ -30,32 +23,20 @@ plain : (neg : Bool) (hi lo : ℕ) → neg ≡ false → lo < W → (hi ≡ twos
 unfolding twos
 plain neg hi lo n k = rw n (halves-are (hi * W + lo) hi lo k refl)
 
--- src/integer.rt:129:9
 returns : tie.Need-returns
 unfolding signedOf
 returns c = simp (c .if1 .taken)
 
--- src/integer.rt:133:8
-in-range-requires : tie.Need-in-range-requires
-in-range-requires c κs = search needs
-
--- src/integer.rt:135:17
-negated-requires : tie.Need-negated-requires
-negated-requires c κs = search needs
-
--- src/integer.rt:136:13
 returns-2 : tie.Need-returns-2
 returns-2 c = gives (c .before .before .before .before .before .args .neg) (c .before .before .before .before .before .args .a) _ _ (c .before .before .before .before .if1 .left) (sym (c .before .before .before .in-range .ensures) ∙ c .before .before .if2 .taken) (rw (c .before .if3 .taken) (c .negated .ensures))
 
--- src/integer.rt:138:9
 returns-3 : tie.Need-returns-3
 returns-3 c = gives (c .before .before .before .before .args .neg) (c .before .before .before .before .args .a) _ _ (c .before .before .before .if1 .left) (sym (c .before .before .in-range .ensures) ∙ c .before .if2 .taken) (plain (c .before .before .before .before .args .neg) (c .before .before .before .before .args .a .hi) (c .before .before .before .before .args .a .lo) (c .if3 .left) (omega arith))
 
--- src/integer.rt:125:1
 returns-4 : tie.Need-returns-4
 unfolding signedOf
 returns-4 c = simp (c .before .before .if1 .left, sym (c .before .in-range .ensures) ∙ c .if2 .left)
 
 pub signed-spec : {M : Type 1} → statement M
 signed-spec =
-    tie.close (tie.spec returns in-range-requires negated-requires returns-2 returns-3 returns-4)
+    tie.close (tie.spec returns (λ c κs. search needs) (λ c κs. search needs) returns-2 returns-3 returns-4)

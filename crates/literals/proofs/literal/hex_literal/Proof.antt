@@ -1,23 +1,19 @@
-use Rattle.literals.specs.Literals.{hexLiteral}
-use Rattle.grammar.specs.Numbers.{inside}
-use native.Mathlib.Omega.{arith}
+-- From 1 to 16 digits.
+-- Assumes nothing.
 use borrow.Author.Tests.{le-leb, lt-leb}
+use Rattle.grammar.specs.Numbers.{inside}
+use Rattle.literals.specs.Literals.{hexLiteral}
 use Rattle.literals.proofs.literal.hex_literal.Statement.{statement}
 use Rattle.literals.proofs.literal.hex_literal.Tie as tie
-use Rattle.literals.proofs.literal.hex_literal.Reads as reads
-use Rattle.literals.proofs.literal.hex_literal.Lts as lts
 
--- src/literal.rt:21:9
 returns : tie.Need-returns
 unfolding hexLiteral inside
 returns c = simp (lt-leb 1 _ (c .if1 .taken))
 
--- src/literal.rt:24:9
 returns-2 : tie.Need-returns-2
 unfolding hexLiteral inside
 returns-2 c = simp (le-leb 1 _ (c .before .if1 .left), lt-leb _ 16 (c .if2 .taken))
 
--- src/literal.rt:15:1
 returns-3 : tie.Need-returns-3
 unfolding hexLiteral inside
 returns-3 c = simp (le-leb 1 _ (c .before .if1 .left), le-leb _ 16 (c .if2 .left))

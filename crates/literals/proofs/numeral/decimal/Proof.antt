@@ -1,15 +1,14 @@
-use Rattle.literals.specs.declared.numeral.Fold.{Fold}
-use Rattle.literals.specs.declared.literal.Literal.the-variants.{Refused}
-use Rattle.literals.specs.Decimals.{floatIn}
-use Rattle.literals.specs.Numerals.{decimalIn, floatLiteral}
+-- `isValid`, test by test.
+-- Assumes nothing.
 use mathlib.Core.Bool.{Bool, true, false, not, _&&_}
 use mathlib.Core.Path.{_≡_, sym, _∙_}
 use borrow.Author.Needs.{needs}
+use Rattle.literals.specs.Decimals.{floatIn}
+use Rattle.literals.specs.Numerals.{decimalIn, floatLiteral}
+use Rattle.literals.specs.declared.literal.Literal.the-variants.{Refused}
+use Rattle.literals.specs.declared.numeral.Fold.{Fold}
 use Rattle.literals.proofs.numeral.decimal.Statement.{statement}
 use Rattle.literals.proofs.numeral.decimal.Tie as tie
-use Rattle.literals.proofs.numeral.decimal.Reads as reads
-use Rattle.literals.proofs.numeral.decimal.Lts as lts
-use Rattle.literals.proofs.numeral.float.Reads as float-reads
 
 valid : (neg : Bool) (s : Fold) → (s .any && not (s .exponent && not (s .powered))) ≡ true → floatLiteral neg (floatIn (s .mantissa) (s .behind) (s .power) (s .down)) ≡ decimalIn neg s
 unfolding decimalIn
@@ -19,30 +18,18 @@ invalid : (neg : Bool) (s : Fold) → (s .any && not (s .exponent && not (s .pow
 unfolding decimalIn
 invalid neg s e = sym (rw (decimalIn, e))
 
--- src/numeral.rt:157:17
-float-requires : tie.Need-float-requires
-float-requires c κs = search needs
-
--- src/numeral.rt:157:17
 returns : tie.Need-returns
 returns c = c .float .ensures ∙ valid (c .before .before .before .before .args .neg) (c .before .before .before .before .args .s) (simp (c .before .before .before .if1 .taken, c .before .before .if2 .taken, c .before .if3 .taken))
 
--- src/numeral.rt:159:13
 returns-2 : tie.Need-returns-2
 returns-2 c = invalid (c .before .before .before .args .neg) (c .before .before .before .args .s) (simp (c .before .before .if1 .taken, c .before .if2 .taken, c .if3 .left))
 
--- src/numeral.rt:161:9
-float-requires-2 : tie.Need-float-requires-2
-float-requires-2 c κs = search needs
-
--- src/numeral.rt:161:9
 returns-3 : tie.Need-returns-3
 returns-3 c = c .float2 .ensures ∙ valid (c .before .before .before .args .neg) (c .before .before .before .args .s) (simp (c .before .before .if1 .taken, c .before .if2 .left))
 
--- src/numeral.rt:151:1
 returns-4 : tie.Need-returns-4
 returns-4 c = invalid (c .before .args .neg) (c .before .args .s) (simp (c .if1 .left))
 
 pub decimal-spec : {M : Type 1} → statement M
 decimal-spec =
-    tie.close (tie.spec float-requires returns returns-2 float-requires-2 returns-3 returns-4)
+    tie.close (tie.spec (λ c κs. search needs) returns returns-2 (λ c κs. search needs) returns-3 returns-4)

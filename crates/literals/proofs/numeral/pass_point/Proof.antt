@@ -1,11 +1,10 @@
-use Rattle.literals.specs.Numerals.{pointPassed}
+-- One field for another.
+-- Assumes nothing.
 use mathlib.Core.Path.{refl}
+use Rattle.literals.specs.Numerals.{pointPassed}
 use Rattle.literals.proofs.numeral.pass_point.Statement.{statement}
 use Rattle.literals.proofs.numeral.pass_point.Tie as tie
-use Rattle.literals.proofs.numeral.pass_point.Reads as reads
-use Rattle.literals.proofs.numeral.pass_point.Lts as lts
 
--- src/numeral.rt:74:1
 returns : tie.Need-returns
 unfolding pointPassed
 returns c = refl

@@ -1,18 +1,17 @@
-use Rattle.literals.specs.declared.numeral.Fold.{Fold}
-use Rattle.literals.specs.declared.literal.Literal.the-variants.{Int, Refused}
+-- An integer with a digit, in range or not.
+-- Assumes nothing.
+use mathlib.Core.Bool.{Bool, true, false}
+use mathlib.Core.Path.{_≡_, sym, ap, _∙_}
+use Prim.Native.Nat.{ℕ}
+use borrow.Author.Needs.{needs}
+use Rattle.literals.specs.Integers.{signedOf}
+use Rattle.literals.specs.Numerals.{integerIn, wordsLiteral}
 use Rattle.literals.specs.declared.integer.Integer.the-variants.{Value, Refused as Out}
 use Rattle.literals.specs.declared.integer.Integer.{Integer}
-use Rattle.literals.specs.Numerals.{integerIn, wordsLiteral}
-use Rattle.literals.specs.Integers.{signedOf}
-use Prim.Native.Nat.{ℕ}
-use mathlib.Core.Bool.{Bool, true, false}
-use mathlib.Core.Path.{_≡_, sym, ap, _∙_, subst}
-use borrow.Author.Needs.{needs}
+use Rattle.literals.specs.declared.literal.Literal.the-variants.{Int, Refused}
+use Rattle.literals.specs.declared.numeral.Fold.{Fold}
 use Rattle.literals.proofs.numeral.whole_literal.Statement.{statement}
 use Rattle.literals.proofs.numeral.whole_literal.Tie as tie
-use Rattle.literals.proofs.numeral.whole_literal.Reads as reads
-use Rattle.literals.proofs.numeral.whole_literal.Lts as lts
-use Rattle.literals.proofs.integer.signed.Reads as signed-reads
 
 goes-on : (neg : Bool) (s : Fold) (r : Integer) → s .any ≡ true → r ≡ signedOf neg (s .whole) → wordsLiteral r ≡ integerIn neg s
 unfolding integerIn
@@ -30,30 +29,15 @@ empty : (neg : Bool) (s : Fold) → s .any ≡ false → Refused 7 ≡ integerIn
 unfolding integerIn
 empty neg s a = sym (rw (integerIn, a))
 
--- src/numeral.rt:171:22
-signed-requires : tie.Need-signed-requires
-signed-requires c κs = search needs
-
--- src/numeral.rt:172:28
-enum-known-h : tie.Need-enum-known-h
-enum-known-h c = search needs
-
--- src/numeral.rt:173:33
-enum-told : tie.Need-enum-told
-enum-told c = search needs
-
--- src/numeral.rt:171:9
 returns : tie.Need-returns
 returns c = in-range (c .before .before .before .signed .result) (c .before .h .given .0 .0) (c .before .h .given .0 .1 .0) (c .before .h .given .1) ∙ goes-on (c .before .before .before .before .before .before .args .neg) (c .before .before .before .before .before .before .args .s) (c .before .before .before .signed .result) (c .before .before .before .before .before .if1 .taken) (c .before .before .before .signed .ensures)
 
--- src/numeral.rt:171:9
 returns-2 : tie.Need-returns-2
 returns-2 c = out (c .before .before .signed .result) (c .enum-told .given .1) ∙ goes-on (c .before .before .before .before .before .args .neg) (c .before .before .before .before .before .args .s) (c .before .before .signed .result) (c .before .before .before .before .if1 .taken) (c .before .before .signed .ensures)
 
--- src/numeral.rt:166:1
 returns-3 : tie.Need-returns-3
 returns-3 c = empty (c .before .args .neg) (c .before .args .s) (c .if1 .left)
 
 pub whole-literal-spec : {M : Type 1} → statement M
 whole-literal-spec =
-    tie.close (tie.spec signed-requires enum-known-h enum-told returns returns-2 returns-3)
+    tie.close (tie.spec (λ c κs. search needs) (λ c. search needs) (λ c. search needs) returns returns-2 returns-3)

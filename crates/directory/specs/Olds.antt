@@ -1,0 +1,73 @@
+-- The older directory as the code has it: the first n entries of a list of words.
+-- Assumes nothing.
+use mathlib.Core.Path.{_≡_}
+use mathlib.Core.Bool.{Bool, true, false}
+use mathlib.Core.Option.{Option, none, some}
+use mathlib.Core.List.{List, [], _∷_}
+use Prim.Native.Nat.{ℕ, zero, suc, _+_, _*_, _/_, _%_, _≤_, _<_}
+use lib.ListN.{length, getD, take, drop}
+use Rattle.program.specs.Class.{isWord}
+use Rattle.records.specs.Words.{pack}
+use Rattle.records.specs.Pieces.{Old, old, olds, oldSizes, oldWords, keptFront, from, fromBlocks}
+
+-- Question 22 as a truth value.
+unfoldable pub answers : Option (List Old) → Bool
+answers none = false
+answers (some os) = true
+
+-- The pieces that n entries name, whether or not question 22 refuses them.
+unfoldable pub oldsOf : ℕ → List ℕ → List Old
+oldsOf zero dir = []
+oldsOf (suc n) [] = []
+oldsOf (suc n) (x ∷ []) = []
+oldsOf (suc n) (x ∷ y ∷ dir) = old (x % 4294967296) (y / 4294967296) (y % 4294967296) ∷ oldsOf n dir
+
+-- The n entries stand within the array, and each starts, in text and words, where the last ended.
+pub record Joined (n : ℕ) (dir : List ℕ) : Type 0 where
+  pub inside : n * 2 ≤ length dir
+  pub start : (m : ℕ) → m < n → getD dir (m * 2) 0 / 4294967296 ≡ oldSizes (take m (oldsOf n dir))
+  pub first : (m : ℕ) → m < n → getD dir (m * 2 + 1) 0 / 4294967296 ≡ oldWords (take m (oldsOf n dir))
+
+-- What question 22 grants where it does not refuse.
+pub record Chained (text words n : ℕ) (dir : List ℕ) : Type 0 where
+  pub is : olds text words n dir ≡ some (oldsOf n dir)
+  pub two : 2 ≤ n
+  pub joined : Joined n dir
+  pub in-text : oldSizes (oldsOf n dir) ≤ text
+  pub in-words : oldWords (oldsOf n dir) ≤ words
+
+-- The bytes of s from `from` up to r are letters, digits or `_`, and the one at r, if s has it, is not.
+pub record WordEnd (s : List ℕ) (from r : ℕ) : Type 0 where
+  pub behind : from ≤ r
+  pub inside : r ≤ length s
+  pub wordy : (k : ℕ) → from ≤ k → k < r → isWord (getD s k 0) ≡ true
+  pub stops : r < length s → isWord (getD s r 0) ≡ false
+
+-- So many of the pieces os are kept in front, where s is common to both texts, and there they end.
+pub record FrontIs (s : List ℕ) (os : List Old) (count pos at : ℕ) : Type 0 where
+  pub kept : count ≡ keptFront s os
+  pub size : pos ≡ oldSizes (take count os)
+  pub words : at ≡ oldWords (take count os)
+
+-- Of the pieces os, those before j, but for the head, start before t.
+pub record Passed (os : List Old) (j t : ℕ) : Type 0 where
+  pub skips : (u : ℕ) → t ≤ u → fromBlocks u os ≡ from u (oldSizes (take j os)) (drop j os)
+
+-- Of the pieces os, number j is the first but the head that starts at the target.
+pub record FoundAt (os : List Old) (target j : ℕ) : Type 0 where
+  pub is : fromBlocks target os ≡ some (drop j os)
+  pub inside : j < length os
+  pub start : oldSizes (take j os) ≡ target
+
+-- None does, and a later one is looked for from j on.
+pub record FoundNot (os : List Old) (target j : ℕ) : Type 0 where
+  pub is : fromBlocks target os ≡ none
+  pub inside : j ≤ length os
+  pub passed : Passed os j target
+
+-- The first n entries of a directory, moved so that they start at pos and at word `at`.
+unfoldable pub moved : (n pos at : ℕ) → List ℕ → List ℕ
+moved zero pos at dir = []
+moved (suc n) pos at [] = []
+moved (suc n) pos at (x ∷ []) = []
+moved (suc n) pos at (x ∷ y ∷ dir) = pack pos (x % 4294967296) ∷ pack at (y % 4294967296) ∷ moved n (pos + x % 4294967296) (at + y % 4294967296) dir

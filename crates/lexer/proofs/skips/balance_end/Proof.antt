@@ -1,0 +1,72 @@
+use mathlib.Core.Path.{_≡_, refl, sym, _∙_}
+use mathlib.Core.Logic.{⊎-elim}
+use native.Mathlib.Omega.{arith}
+use Prim.Native.Nat.{_+_, _-_, _≤_}
+use lib.ListN.{length, drop}
+use Rattle.program.specs.Prog.{scanLen}
+use Rattle.grammar.specs.Lexer.{balanceStep}
+use Rattle.lexer.proofs.Scan.{scan-out}
+use Rattle.lexer.proofs.Strings.{balance-left, balance-other, balance-right, balance-stop}
+use borrow.Author.Needs.{needs}
+use Rattle.lexer.proofs.skips.balance_end.Statement.{statement}
+use Rattle.lexer.proofs.skips.balance_end.Tie as tie
+use Rattle.lexer.proofs.skips.balance_end.Reads as reads
+use Rattle.lexer.proofs.skips.balance_end.Lts as lts
+
+abbrev Inv-loop : tie.InvT-loop
+Inv-loop text at left right i₀ q₀ i q = (q ≤ i) × (at + scanLen (balanceStep left right) 0 (drop at text) ≡ i + scanLen (balanceStep left right) q (drop i text))
+
+abbrev μ-loop : tie.MeasureT-loop
+μ-loop text at left right i₀ q₀ i q = length text - i
+
+-- src/skips.rt:34:5
+loop-holds : tie.Need-loop-holds Inv-loop μ-loop
+loop-holds c = (omega arith, refl)
+
+-- src/skips.rt:35:17
+shared-slice-read-b : tie.Need-shared-slice-read-b Inv-loop μ-loop
+shared-slice-read-b c = search needs
+
+-- src/skips.rt:37:13
+add-q : tie.Need-add-q Inv-loop μ-loop
+add-q c = omega (arith, c .before .before .before .loop .inv .0)
+
+-- src/skips.rt:41:21
+returns : tie.Need-returns Inv-loop μ-loop
+returns c = sym (c .before .before .before .before .before .loop .inv .1 ∙ balance-stop _ _ _ _ _ (c .before .before .before .before .loop-test .taken) (c .before .before .if1 .left) (c .before .if2 .taken) (c .if3 .taken))
+
+-- src/skips.rt:43:17
+sub-q : tie.Need-sub-q Inv-loop μ-loop
+sub-q c = search needs
+
+-- src/skips.rt:46:9
+add-i : tie.Need-add-i Inv-loop μ-loop
+add-i c = search needs
+
+-- src/skips.rt:34:5
+loop-less : tie.Need-loop-less Inv-loop μ-loop
+loop-less c = search needs
+
+-- src/skips.rt:34:5
+loop-again : tie.Need-loop-again Inv-loop μ-loop
+loop-again c = ⊎-elim (λ w. rw (w .1) (omega (arith, c .before .before .before .loop .inv .0), c .before .before .before .loop .inv .1 ∙ balance-left _ _ _ _ _ (c .before .before .loop-test .taken) (w .0 .taken))) (⊎-elim (λ w. rw (w .3) (omega (arith, c .before .before .before .loop .inv .0), c .before .before .before .loop .inv .1 ∙ balance-right _ _ _ _ _ (c .before .before .loop-test .taken) (w .0 .left) (w .1 .taken) (w .2 .left))) (λ w. rw (w .2) (omega (arith, c .before .before .before .loop .inv .0), c .before .before .before .loop .inv .1 ∙ balance-other _ _ _ _ _ (c .before .before .loop-test .taken) (w .0 .left) (w .1 .left)))) (c .if1 .came)
+
+-- src/skips.rt:29:1
+returns-2 : tie.Need-returns-2 Inv-loop μ-loop
+returns-2 c = sym (c .before .loop .inv .1 ∙ scan-out (balanceStep _ _) _ _ _ (c .loop-test .left))
+
+pub balance-end-spec : {M : Type 1} → statement M
+balance-end-spec =
+    tie.close
+    (tie.spec
+    Inv-loop
+    μ-loop
+    loop-holds
+    shared-slice-read-b
+    add-q
+    returns
+    sub-q
+    add-i
+    loop-less
+    loop-again
+    returns-2)
