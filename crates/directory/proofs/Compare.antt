@@ -172,3 +172,32 @@ common-take-left (x ∷ xs) (y ∷ ys) = go (eqb x y) refl (common-take-left xs 
     go : (b : Bool) → eqb x y ≡ b → take (length (common xs ys)) xs ≡ common xs ys → take (length (common (x ∷ xs) (y ∷ ys))) (x ∷ xs) ≡ common (x ∷ xs) (y ∷ ys)
     go true t ih = rw (common, t) (ap {B = List ℕ} (λ r. x ∷ r) ih)
     go false t ih = rw (common, t)
+
+-- neither is longer than what remains
+commonEnd-left : (i j : ℕ) (xs ys : List ℕ) → commonEnd i j xs ys ≤ i
+unfolding commonEnd
+commonEnd-left zero j xs ys = omega arith
+commonEnd-left (suc i) zero xs ys = omega arith
+commonEnd-left (suc i) (suc j) xs ys = go (eqb (getD xs i 0) (getD ys j 0)) refl (commonEnd-left i j xs ys)
+  where
+    go : (b : Bool) → eqb (getD xs i 0) (getD ys j 0) ≡ b → commonEnd i j xs ys ≤ i → commonEnd (suc i) (suc j) xs ys ≤ suc i
+    go true t ih = rw (commonEnd, t) (omega arith)
+    go false t ih = rw (commonEnd, t) (omega arith)
+
+commonEnd-right : (i j : ℕ) (xs ys : List ℕ) → commonEnd i j xs ys ≤ j
+unfolding commonEnd
+commonEnd-right zero j xs ys = omega arith
+commonEnd-right (suc i) zero xs ys = omega arith
+commonEnd-right (suc i) (suc j) xs ys = go (eqb (getD xs i 0) (getD ys j 0)) refl (commonEnd-right i j xs ys)
+  where
+    go : (b : Bool) → eqb (getD xs i 0) (getD ys j 0) ≡ b → commonEnd i j xs ys ≤ j → commonEnd (suc i) (suc j) xs ys ≤ suc j
+    go true t ih = rw (commonEnd, t) (omega arith)
+    go false t ih = rw (commonEnd, t) (omega arith)
+
+pub end-left : (xs ys : List ℕ) → endOf xs ys ≤ length xs - length (common xs ys)
+unfolding endOf
+end-left xs ys = commonEnd-left (length xs - length (common xs ys)) (length ys - length (common xs ys)) (drop (length (common xs ys)) xs) (drop (length (common xs ys)) ys)
+
+pub end-right : (xs ys : List ℕ) → endOf xs ys ≤ length ys - length (common xs ys)
+unfolding endOf
+end-right xs ys = commonEnd-right (length xs - length (common xs ys)) (length ys - length (common xs ys)) (drop (length (common xs ys)) xs) (drop (length (common xs ys)) ys)

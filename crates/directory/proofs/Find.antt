@@ -4,16 +4,16 @@ use mathlib.Core.Path.{_≡_, refl, sym, ap, _∙_}
 use mathlib.Core.Bool.{Bool, true, false}
 use mathlib.Core.Option.{Option, none, some}
 use mathlib.Core.List.{List, [], _∷_}
-use Prim.Native.Nat.{ℕ, zero, suc, _+_, _*_, _/_, _%_, _≤_, _<_}
+use Prim.Native.Nat.{ℕ, zero, suc, _+_, _-_, _*_, _/_, _%_, _≤_, _<_}
 use native.Mathlib.Nat.{add-zero}
 use native.Mathlib.Numerals.{add-one}
 use native.Mathlib.Omega.{arith}
-use lib.Dec.{eqb}
+use lib.Dec.{leb, eqb}
 use lib.ListN.{length, take, drop, getD, drop-of-length-le}
-use borrow.Author.Tests.{eq-eqb, ne-eqb}
-use Rattle.records.specs.Pieces.{Old, old, oldSizes, from, fromBlocks}
-use Rattle.directory.specs.Olds.{oldsOf, Joined, Passed, FoundAt, FoundNot}
-use Rattle.directory.proofs.Links.{sizeAt, firstAt, countAt, olds-next, olds-length, sizes-step}
+use borrow.Author.Tests.{eq-eqb, ne-eqb, le-leb, lt-leb}
+use Rattle.records.specs.Pieces.{Old, old, oldSizes, from, fromBlocks, joins}
+use Rattle.directory.specs.Olds.{oldsOf, Joined, Chained, Passed, FoundAt, FoundNot}
+use Rattle.directory.proofs.Links.{sizeAt, firstAt, countAt, olds-next, olds-length, sizes-step, sizes-split}
 
 -- Before piece 1 only the head stands.
 pub passed-first : (os : List Old) (t : ℕ) → Passed os 1 t
@@ -80,3 +80,23 @@ module _ (n : ℕ) (dir : List ℕ) (g : Joined n dir) (j target : ℕ) (p : Pas
         skips = λ u k. p .skips u k
             ∙ rw (add-one j, q, piece h) (from-next u (oldSizes (take j (oldsOf n dir))) (sizeAt dir j) (firstAt dir j) (countAt dir j) (drop (suc j) (oldsOf n dir)) (omega arith));
       }
+
+-- ---- what the search answers, after a head or block, of the text s behind it
+module _ (c olen : ℕ) (os : List Old) (s : List ℕ) where
+  pub joins-far : c < length s → joins c olen os s ≡ none
+  unfolding joins
+  joins-far h = let t : leb (length s) c ≡ false = lt-leb (length s) c h in rw (joins, t)
+
+  joins-near : length s ≤ c → joins c olen os s ≡ fromBlocks (olen - length s) os
+  unfolding joins
+  joins-near h = let t : leb (length s) c ≡ true = le-leb (length s) c h in rw (joins, t)
+
+  pub joins-found : (j : ℕ) → length s ≤ c → FoundAt os (olen - length s) j → joins c olen os s ≡ some (drop j os)
+  joins-found j h f = joins-near h ∙ f .is
+
+  pub joins-none : (j : ℕ) → length s ≤ c → FoundNot os (olen - length s) j → joins c olen os s ≡ none
+  joins-none j h f = joins-near h ∙ f .is
+
+-- The old pieces from there on are no longer than the text that remains.
+pub kept-size : (T W n : ℕ) (dir : List ℕ) (len j : ℕ) → Chained T W n dir → len ≤ T → FoundAt (oldsOf n dir) (T - len) j → oldSizes (drop j (oldsOf n dir)) ≤ len
+kept-size T W n dir len j c h f = omega (arith, sizes-split j (oldsOf n dir), c .in-text, f .start)

@@ -326,3 +326,46 @@ module _ (s : List ℕ) (n : ℕ) (dir : List ℕ) where
         size = r .1 ∙ ap oldSizes (sym (olds-take n i dir h) ∙ ap (λ (m : ℕ). take m (oldsOf n dir)) (sym (r .0)));
         words = r .2 ∙ ap oldWords (sym (olds-take n i dir h) ∙ ap (λ (m : ℕ). take m (oldsOf n dir)) (sym (r .0)));
       }
+
+-- ---- what is kept in front lies inside
+closes-inside : (s : List ℕ) (e : ℕ) → closes (drop e s) ≡ true → e < length s
+closes-inside s e h = go (leb (length s) e) refl
+  where
+    go : (b : Bool) → leb (length s) e ≡ b → e < length s
+    go true t = let w : closes (drop e s) ≡ false = closes-out s e (far s e (leb-true (length s) e t)) in let z : _≡_ {A = ℕ} 0 1 = cc in absurd (omega arith)
+    go false t = leb-false (length s) e t
+
+-- so many of the pieces, and so much of the text
+Inside : List ℕ → List Old → ℕ → Type 0
+Inside s os k = (k ≤ length os) × (oldSizes (take k os) ≤ length s)
+
+rest-inside : (s : List ℕ) (os : List Old) → Inside s os (keptRest s os)
+unfolding Inside keptRest oldSizes
+rest-inside s [] = (omega arith, omega arith)
+rest-inside s (old e f n ∷ []) = go (ltb e (length s)) refl
+  where
+    go : (b : Bool) → ltb e (length s) ≡ b → Inside s (old e f n ∷ []) (keptRest s (old e f n ∷ []))
+    go true t = rw (keptRest, t) (omega arith, omega (arith, ltb-true e (length s) t))
+    go false t = rw (keptRest, t) (omega arith, omega arith)
+rest-inside s (old e f n ∷ o ∷ os) = go (closes (drop e s)) refl (rest-inside (drop e s) (o ∷ os))
+  where
+    go : (b : Bool) → closes (drop e s) ≡ b → Inside (drop e s) (o ∷ os) (keptRest (drop e s) (o ∷ os)) → Inside s (old e f n ∷ o ∷ os) (keptRest s (old e f n ∷ o ∷ os))
+    go true t ih = rw (block-yes s e f n o os t) (omega (arith, ih .0), omega (arith, ih .1, closes-inside s e t, length-drop e s))
+    go false t ih = rw (keptRest, t) (omega arith, omega arith)
+
+front-in : (s : List ℕ) (os : List Old) → Inside s os (keptFront s os)
+unfolding Inside keptFront oldSizes
+front-in s [] = (omega arith, omega arith)
+front-in s (old e f n ∷ os) = go (ltb e (length s)) refl (rest-inside (drop e s) os)
+  where
+    go : (b : Bool) → ltb e (length s) ≡ b → Inside (drop e s) os (keptRest (drop e s) os) → Inside s (old e f n ∷ os) (keptFront s (old e f n ∷ os))
+    go true t ih = rw (keptFront, t) (omega (arith, ih .0), omega (arith, ih .1, ltb-true e (length s) t, length-drop e s))
+    go false t ih = rw (keptFront, t) (omega arith, omega arith)
+
+pub front-count : (s : List ℕ) (os : List Old) → keptFront s os ≤ length os
+unfolding Inside
+front-count s os = front-in s os .0
+
+pub front-size : (s : List ℕ) (os : List Old) → oldSizes (take (keptFront s os) os) ≤ length s
+unfolding Inside
+front-size s os = front-in s os .1

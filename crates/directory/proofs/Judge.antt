@@ -11,7 +11,7 @@ use lib.ListN.{length, drop, getD, drop-of-length-le}
 use borrow.Author.Tests.{le-leb, lt-leb, lt-ltb, le-ltb, leb-true, leb-false, ltb-true}
 use Rattle.records.specs.Pieces.{Run, done, item, mapRun, size, before, Old, old, oldSizes, oldWords, judge, fine, refused, Verdict}
 use Rattle.directory.specs.Answers.{roomOf, afterRoom}
-use Rattle.directory.specs.Olds.{oldsOf}
+use Rattle.directory.specs.Olds.{oldsOf, RoomFor}
 use Rattle.directory.specs.declared.rooms.Room.{Room}
 use Rattle.directory.specs.declared.rooms.Room.the-variants.{Fits, Words, Entry}
 use Rattle.directory.proofs.Links.{sizeAt, firstAt, countAt, olds-next, olds-length}
@@ -117,3 +117,20 @@ module _ (W D n : ℕ) (dir : List ℕ) (v : Verdict) (inside : n * 2 ≤ length
     judging-next r =
         rw (add-one k, add-one i)
         (record { small = omega (arith, g .small, rest-size); same = turn ∙ rw (← r) })
+
+-- ---- where all is fine, the old pieces have room
+after-fine : (r : Room) (p : ℕ) (v : Verdict) → afterRoom r p v ≡ fine → (r ≡ Fits) × (v ≡ fine)
+unfolding afterRoom
+after-fine Fits p v h = (refl, h)
+after-fine Words p v h = let z : _≡_ {A = ℕ} 0 1 = cc in absurd (omega arith)
+after-fine Entry p v h = let z : _≡_ {A = ℕ} 0 1 = cc in absurd (omega arith)
+
+pub kept-room : (W D i pos at : ℕ) (os : List Old) → at ≤ W → at < 4294967296 → i * 2 ≤ D → judge W D i pos at (sizesOf os) ≡ fine → RoomFor W D i at os
+unfolding oldWords
+kept-room W D i pos at [] a b c h = record { in-words = omega arith; small = omega arith; entries = omega arith }
+kept-room W D i pos at (old e f n ∷ os) a b c h =
+    let t : (roomOf W D i at n ≡ Fits) × (judge W D (suc i) (pos + e) (at + n) (sizesOf os) ≡ fine) =
+    after-fine (roomOf W D i at n) (pos + e) (judge W D (suc i) (pos + e) (at + n) (sizesOf os)) (sym (judge-old W D i pos at e f n os) ∙ h) in
+    let g : Fitting W D i at n = fitting W D i at n (t .0) in
+    let r : RoomFor W D (suc i) (at + n) os = kept-room W D (suc i) (pos + e) (at + n) os (g .in-words) (g .small) (omega (arith, g .entry)) (t .1) in
+    record { in-words = omega (arith, r .in-words); small = omega (arith, r .small); entries = omega (arith, r .entries) }

@@ -8,3 +8,5 @@ pub mod Word
 pub mod Front
 pub mod Find
 pub mod Moved
+pub mod Place
+pub mod Final

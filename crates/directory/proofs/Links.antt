@@ -95,6 +95,14 @@ olds-drop (suc n) (suc j) (x ∷ y ∷ dir) =
     let e : suc n - suc j ≡ n - j = omega arith in
     rw (e, twice j) (olds-drop n j dir)
 
+-- the words of the pieces from number f on, from where the first f and where all end
+module _ (n f : ℕ) (dir : List ℕ) (h : f ≤ n) where
+  pub kept-first : oldWords (oldsOf f dir) ≡ oldWords (take f (oldsOf n dir))
+  kept-first = ap oldWords (sym (olds-take n f dir h))
+
+  pub kept-words : oldWords (oldsOf n dir) ≡ oldWords (oldsOf f dir) + oldWords (drop f (oldsOf n dir))
+  kept-words = words-split f (oldsOf n dir) ∙ ap (λ (x : ℕ). x + oldWords (drop f (oldsOf n dir))) (sym kept-first)
+
 -- ---- a chain
 record Step (T W n pos at x y : ℕ) (dir : List ℕ) (os : List Old) : Type 0 where
   others : List Old

@@ -3,9 +3,10 @@
 use mathlib.Core.Path.{_≡_}
 use mathlib.Core.Bool.{Bool, true, false}
 use mathlib.Core.Option.{Option, none, some}
-use mathlib.Core.List.{List, [], _∷_}
-use Prim.Native.Nat.{ℕ, zero, suc, _+_, _*_, _/_, _%_, _≤_, _<_}
+use mathlib.Core.List.{List, [], _∷_, _++_}
+use Prim.Native.Nat.{ℕ, zero, suc, _+_, _-_, _*_, _/_, _%_, _≤_, _<_}
 use lib.ListN.{length, getD, take, drop}
+use lib.Seq.{paste}
 use Rattle.program.specs.Class.{isWord}
 use Rattle.records.specs.Words.{pack}
 use Rattle.records.specs.Pieces.{Old, old, olds, oldSizes, oldWords, keptFront, from, fromBlocks}
@@ -71,3 +72,15 @@ moved zero pos at dir = []
 moved (suc n) pos at [] = []
 moved (suc n) pos at (x ∷ []) = []
 moved (suc n) pos at (x ∷ y ∷ dir) = pack pos (x % 4294967296) ∷ pack at (y % 4294967296) ∷ moved n (pos + x % 4294967296) (at + y % 4294967296) dir
+
+-- Old pieces have room as pieces i and so on, with their words from `at` on.
+pub record RoomFor (W D i at : ℕ) (os : List Old) : Type 0 where
+  pub in-words : at + oldWords os ≤ W
+  pub small : at + oldWords os < 4294967296
+  pub entries : (i + length os) * 2 ≤ D
+
+-- The old pieces from number f on have become pieces t and so on, from pos and from word `at` on; r is the end of their words.
+pub record KeptBehind (ws dir : List ℕ) (n f t pos at r : ℕ) (ws2 dir2 : List ℕ) : Type 0 where
+  pub end : r ≡ at + oldWords (drop f (oldsOf n dir))
+  pub words : ws2 ≡ paste ws at (drop (oldWords (take f (oldsOf n dir))) ws) (oldWords (drop f (oldsOf n dir)))
+  pub entries : dir2 ≡ take (t * 2) dir ++ (moved (n - f) pos at (drop (f * 2) dir) ++ drop ((t + (n - f)) * 2) dir)

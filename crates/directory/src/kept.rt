@@ -1,10 +1,12 @@
-// The pieces that re-reading keeps in front.
+// The pieces that re-reading keeps.
+use crate::arrays::move_entries;
+use crate::arrays::move_words;
 ghost use mathlib.Core.Path.{_≡_};
-ghost use Prim.Native.Nat.{max, _≤_};
+ghost use Prim.Native.Nat.{max, _+_, _≤_, _<_};
 ghost use lib.ListN.{length, take, drop};
 ghost use Rattle.program.specs.Class.{isWord};
 ghost use Rattle.records.specs.Pieces.{leads, addrspace, oldSizes, oldWords};
-ghost use Rattle.directory.specs.Olds.{oldsOf, Joined, FrontIs, WordEnd};
+ghost use Rattle.directory.specs.Olds.{oldsOf, Joined, FrontIs, WordEnd, RoomFor, KeptBehind};
 
 // How many pieces, and where the last of them ends in text and words.
 pub struct Front {
@@ -145,4 +147,29 @@ pub fn kept_front(text: &[u8], a: usize, directory: &[u64], entries: usize) -> F
         return front_of(directory, i);
     }
     front_of(directory, i + 1)
+}
+
+// Makes place for what is read: the old pieces from number `from` on, "kept, shifted", become pieces `to` and so on, which stand at pos
+// and at word `at`. Returns the end of their words.
+pub fn keep_behind(
+    words: &mut [u64],
+    directory: &mut [u64],
+    entries: usize,
+    from: usize,
+    to: usize,
+    pos: usize,
+    at: usize,
+) -> usize
+    requires { ⌜ Joined entries (now directory) ⌝ }
+    requires { ⌜ (from ≤ entries) × (oldWords (oldsOf entries (now directory)) ≤ length (now words)) × (pos + oldSizes (drop from (oldsOf entries (now directory))) < 4294967296) ⌝ }
+    requires { ⌜ RoomFor (length (now words)) (length (now directory)) to at (drop from (oldsOf entries (now directory))) ⌝ }
+    ensures { λ r. ⌜ KeptBehind (now (words .entry)) (now (directory .entry)) entries from to pos at r (now (words .exit)) (now (directory .exit)) ⌝ }
+{
+    let here = front_of(directory, from);
+    let end = front_of(directory, entries);
+    let first = here.at;
+    let n = end.at - first;
+    move_words(words, first, at, n);
+    move_entries(directory, entries, from, to, pos, at);
+    at + n
 }

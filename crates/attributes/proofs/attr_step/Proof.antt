@@ -1,0 +1,133 @@
+use mathlib.Core.Path.{sym}
+use Rattle.program.specs.Prog.{_>>=_}
+use Rattle.grammar.specs.Attributes.{parenAttrs, flagAttrs, skipAttrsIn}
+use Rattle.lexer.proofs.Laws.{true-false, g-then, g-done, g-stay, g-byte-yes, g-byte-no, g-word-yes, g-word-no, g-fail}
+use Rattle.lexer.proofs.Ranks.{g-rank-yes, g-rank-no}
+use Rattle.attributes.specs.Step.{groupDigits}
+use Rattle.attributes.proofs.AttrLaws.{g-at-yes, g-at-no}
+use borrow.Author.Needs.{needs}
+use Rattle.attributes.proofs.attr_step.Statement.{statement}
+use Rattle.attributes.proofs.attr_step.Tie as tie
+use Rattle.attributes.proofs.attr_step.Reads as reads
+use Rattle.attributes.proofs.attr_step.Lts as lts
+use Rattle.attributes.proofs.flag_attr.Reads as flag-attr-reads
+use Rattle.attributes.proofs.paren_attr.Reads as paren-attr-reads
+use Rattle.attributes.proofs.skip_group.Reads as skip-group-reads
+use Rattle.lexer.proofs.eat_ws.Reads as eat-ws-reads
+use Rattle.lexer.proofs.looks.Reads as looks-reads
+use Rattle.lexer.proofs.parse_int.Reads as parse-int-reads
+use Rattle.lexer.proofs.pass.Reads as pass-reads
+use Rattle.lexer.proofs.refuse.Reads as refuse-reads
+use Rattle.lexer.proofs.skip_parens.Reads as skip-parens-reads
+use Rattle.lexer.proofs.word.Reads as word-reads
+
+-- src/lib.rt:156:9
+eat-ws-requires : tie.Need-eat-ws-requires
+eat-ws-requires c κs = search needs
+
+-- src/lib.rt:157:8
+looks-requires : tie.Need-looks-requires
+looks-requires c κs = search needs
+
+-- src/lib.rt:158:13
+pass-requires : tie.Need-pass-requires
+pass-requires c κs = search needs
+
+-- src/lib.rt:159:13
+skip-group-requires : tie.Need-skip-group-requires
+skip-group-requires c κs = search needs
+
+-- src/lib.rt:160:9
+returns : tie.Need-returns
+unfolding skipAttrsIn parenAttrs flagAttrs groupDigits _>>=_
+returns c = record { again = λ e u. g-then _ (c .before .before .before .before .eat-ws .ensures) (g-byte-yes _ _ (c .before .before .before .looks .ensures) (c .before .before .if1 .taken) (c .before .pass .ensures) (g-then {f = groupDigits} (λ _. skipAttrsIn u) (c .skip-group .ensures) g-stay)); over = λ e u. true-false (sym e) }
+
+-- src/lib.rt:162:8
+looks-requires-2 : tie.Need-looks-requires-2
+looks-requires-2 c κs = search needs
+
+-- src/lib.rt:163:13
+refuse-requires : tie.Need-refuse-requires
+refuse-requires c κs = search needs
+
+-- src/lib.rt:164:9
+returns-2 : tie.Need-returns-2
+unfolding skipAttrsIn parenAttrs flagAttrs groupDigits _>>=_
+returns-2 c = record { again = λ e u. true-false e; over = λ e u. g-then _ (c .before .before .before .before .before .eat-ws .ensures) (g-byte-no _ _ (c .before .before .before .before .looks .ensures) (c .before .before .before .if1 .left) (g-at-yes _ _ (c .before .before .looks2 .ensures) (c .before .if2 .taken) (g-fail _ (c .refuse .ensures)))) }
+
+-- src/lib.rt:166:9
+paren-attr-requires : tie.Need-paren-attr-requires
+paren-attr-requires c κs = search needs
+
+-- src/lib.rt:170:13
+skip-parens-requires : tie.Need-skip-parens-requires
+skip-parens-requires c κs = search needs
+
+-- src/lib.rt:171:9
+returns-3 : tie.Need-returns-3
+unfolding skipAttrsIn parenAttrs flagAttrs groupDigits _>>=_
+returns-3 c = record { again = λ e u. g-then _ (c .before .before .before .before .before .before .before .eat-ws .ensures) (g-byte-no _ _ (c .before .before .before .before .before .before .looks .ensures) (c .before .before .before .before .before .if1 .left) (g-at-no _ _ (c .before .before .before .before .looks2 .ensures) (c .before .before .before .if2 .left) (g-rank-yes _ _ _ (c .before .before .paren-attr .ensures) (c .before .if3 .taken) (g-then _ (c .skip-parens .ensures) g-stay)))); over = λ e u. true-false (sym e) }
+
+-- src/lib.rt:173:39
+slice-aggregate-word : tie.Need-slice-aggregate-word
+slice-aggregate-word c = search needs
+
+-- src/lib.rt:173:8
+word-requires : tie.Need-word-requires
+word-requires c κs = search needs
+
+-- src/lib.rt:174:13
+pass-requires-2 : tie.Need-pass-requires-2
+pass-requires-2 c κs = search needs
+
+-- src/lib.rt:175:13
+eat-ws-requires-2 : tie.Need-eat-ws-requires-2
+eat-ws-requires-2 c κs = search needs
+
+-- src/lib.rt:176:13
+parse-int-requires : tie.Need-parse-int-requires
+parse-int-requires c κs = search needs
+
+-- src/lib.rt:178:9
+returns-4 : tie.Need-returns-4
+unfolding skipAttrsIn parenAttrs flagAttrs groupDigits _>>=_
+returns-4 c = record { again = λ e u. g-then _ (c .before .before .before .before .before .before .before .before .before .before .before .before .eat-ws .ensures) (g-byte-no _ _ (c .before .before .before .before .before .before .before .before .before .before .before .looks .ensures) (c .before .before .before .before .before .before .before .before .before .before .if1 .left) (g-at-no _ _ (c .before .before .before .before .before .before .before .before .before .looks2 .ensures) (c .before .before .before .before .before .before .before .before .if2 .left) (g-rank-no _ _ _ (c .before .before .before .before .before .before .before .paren-attr .ensures) (c .before .before .before .before .before .before .if3 .left) (g-word-yes _ _ (c .before .before .before .before .word .ensures) (c .before .before .before .if4 .taken) (c .before .before .pass2 .ensures) (g-then _ (c .before .eat-ws2 .ensures) (g-then _ (c .parse-int .ensures) g-stay)))))); over = λ e u. true-false (sym e) }
+
+-- src/lib.rt:180:9
+flag-attr-requires : tie.Need-flag-attr-requires
+flag-attr-requires c κs = search needs
+
+-- src/lib.rt:184:9
+returns-5 : tie.Need-returns-5
+unfolding skipAttrsIn parenAttrs flagAttrs groupDigits _>>=_
+returns-5 c = record { again = λ e u. g-then _ (c .before .before .before .before .before .before .before .before .before .before .before .eat-ws .ensures) (g-byte-no _ _ (c .before .before .before .before .before .before .before .before .before .before .looks .ensures) (c .before .before .before .before .before .before .before .before .before .if1 .left) (g-at-no _ _ (c .before .before .before .before .before .before .before .before .looks2 .ensures) (c .before .before .before .before .before .before .before .if2 .left) (g-rank-no _ _ _ (c .before .before .before .before .before .before .paren-attr .ensures) (c .before .before .before .before .before .if3 .left) (g-word-no _ _ (c .before .before .before .word .ensures) (c .before .before .if4 .left) (g-rank-yes _ _ _ (c .before .flag-attr .ensures) (c .if5 .taken) g-stay))))); over = λ e u. true-false (sym e) }
+
+-- src/lib.rt:152:1
+returns-6 : tie.Need-returns-6
+unfolding skipAttrsIn parenAttrs flagAttrs groupDigits _>>=_
+returns-6 c = record { again = λ e u. true-false e; over = λ e u. g-then _ (c .before .before .before .before .before .before .before .before .before .before .before .eat-ws .ensures) (g-byte-no _ _ (c .before .before .before .before .before .before .before .before .before .before .looks .ensures) (c .before .before .before .before .before .before .before .before .before .if1 .left) (g-at-no _ _ (c .before .before .before .before .before .before .before .before .looks2 .ensures) (c .before .before .before .before .before .before .before .if2 .left) (g-rank-no _ _ _ (c .before .before .before .before .before .before .paren-attr .ensures) (c .before .before .before .before .before .if3 .left) (g-word-no _ _ (c .before .before .before .word .ensures) (c .before .before .if4 .left) (g-rank-no _ _ _ (c .before .flag-attr .ensures) (c .if5 .left) g-done))))) }
+
+pub attr-step-spec : {M : Type 1} → statement M
+attr-step-spec =
+    tie.close
+    (tie.spec
+    eat-ws-requires
+    looks-requires
+    pass-requires
+    skip-group-requires
+    returns
+    looks-requires-2
+    refuse-requires
+    returns-2
+    paren-attr-requires
+    skip-parens-requires
+    returns-3
+    slice-aggregate-word
+    word-requires
+    pass-requires-2
+    eat-ws-requires-2
+    parse-int-requires
+    returns-4
+    flag-attr-requires
+    returns-5
+    returns-6)

@@ -1,0 +1,80 @@
+use mathlib.Core.Path.{_≡_, ap, _∙_}
+use Prim.Native.Nat.{ℕ, _+_, _-_}
+use native.Mathlib.Omega.{arith}
+use lib.ListN.{take, drop, length-drop}
+use Rattle.records.specs.Pieces.{oldWords}
+use Rattle.directory.specs.Olds.{oldsOf}
+use Rattle.directory.proofs.Links.{olds-length, kept-first, kept-words}
+use Rattle.directory.proofs.Front.{joined-less}
+use borrow.Author.Needs.{needs}
+use Rattle.directory.proofs.kept.keep_behind.Statement.{statement}
+use Rattle.directory.proofs.kept.keep_behind.Tie as tie
+use Rattle.directory.proofs.kept.keep_behind.Reads as reads
+use Rattle.directory.proofs.kept.keep_behind.Lts as lts
+use Rattle.directory.proofs.arrays.move_entries.Reads as move-entries-reads
+use Rattle.directory.proofs.arrays.move_words.Reads as move-words-reads
+use Rattle.directory.proofs.kept.front_of.Reads as front-of-reads
+
+-- src/kept.rt:160:9
+front-of-requires : tie.Need-front-of-requires
+front-of-requires c κs = joined-less (c .before .before .before .args .entries) (c .before .before .before .args .from) (c .before .before .before .args .directory .now) (c .before .before .before .pre .1 .0 .0) (c .before .before .before .pre .0)
+
+-- src/kept.rt:161:9
+front-of-requires-2 : tie.Need-front-of-requires-2
+front-of-requires-2 c κs = search needs
+
+-- src/kept.rt:163:13
+sub-n : tie.Need-sub-n
+sub-n c = let a : c .before .before .before .front-of .result .at ≡ oldWords (oldsOf (c .before .before .before .before .before .before .before .args .from) (c .before .before .before .before .before .before .before .args .directory .now)) = c .before .before .before .front-of .ensures .2 in
+    let z : c .before .front-of2 .result .at ≡ oldWords (oldsOf (c .before .before .before .before .before .before .before .args .entries) (c .before .before .before .before .before .before .before .args .directory .now)) = c .before .front-of2 .ensures .2 in
+    let w : oldWords (oldsOf (c .before .before .before .before .before .before .before .args .entries) (c .before .before .before .before .before .before .before .args .directory .now)) ≡ oldWords (oldsOf (c .before .before .before .before .before .before .before .args .from) (c .before .before .before .before .before .before .before .args .directory .now)) + oldWords (drop (c .before .before .before .before .before .before .before .args .from) (oldsOf (c .before .before .before .before .before .before .before .args .entries) (c .before .before .before .before .before .before .before .args .directory .now))) = kept-words (c .before .before .before .before .before .before .before .args .entries) (c .before .before .before .before .before .before .before .args .from) (c .before .before .before .before .before .before .before .args .directory .now) (c .before .before .before .before .before .before .before .pre .1 .0 .0) in
+    omega arith
+
+-- src/kept.rt:164:5
+move-words-requires : tie.Need-move-words-requires
+move-words-requires c κs = let a : c .before .before .before .before .front-of .result .at ≡ oldWords (oldsOf (c .before .before .before .before .before .before .before .before .args .from) (c .before .before .before .before .before .before .before .before .args .directory .now)) = c .before .before .before .before .front-of .ensures .2 in
+    let z : c .before .before .front-of2 .result .at ≡ oldWords (oldsOf (c .before .before .before .before .before .before .before .before .args .entries) (c .before .before .before .before .before .before .before .before .args .directory .now)) = c .before .before .front-of2 .ensures .2 in
+    let w : oldWords (oldsOf (c .before .before .before .before .before .before .before .before .args .entries) (c .before .before .before .before .before .before .before .before .args .directory .now)) ≡ oldWords (oldsOf (c .before .before .before .before .before .before .before .before .args .from) (c .before .before .before .before .before .before .before .before .args .directory .now)) + oldWords (drop (c .before .before .before .before .before .before .before .before .args .from) (oldsOf (c .before .before .before .before .before .before .before .before .args .entries) (c .before .before .before .before .before .before .before .before .args .directory .now))) = kept-words (c .before .before .before .before .before .before .before .before .args .entries) (c .before .before .before .before .before .before .before .before .args .from) (c .before .before .before .before .before .before .before .before .args .directory .now) (c .before .before .before .before .before .before .before .before .pre .1 .0 .0) in
+    (omega (arith, c .before .before .before .before .before .before .before .before .pre .1 .0 .1), omega (arith, c .before .before .before .before .before .before .before .before .pre .1 .1 .in-words))
+
+-- src/kept.rt:165:5
+move-entries-requires : tie.Need-move-entries-requires
+move-entries-requires c κs = let a : c .before .before .before .before .before .before .before .before .front-of .result .at ≡ oldWords (oldsOf (c .before .before .before .before .before .before .before .before .before .before .before .before .args .from) (c .before .before .before .before .before .before .before .before .before .before .before .before .args .directory .now)) = c .before .before .before .before .before .before .before .before .front-of .ensures .2 in
+    let z : c .before .before .before .before .before .before .front-of2 .result .at ≡ oldWords (oldsOf (c .before .before .before .before .before .before .before .before .before .before .before .before .args .entries) (c .before .before .before .before .before .before .before .before .before .before .before .before .args .directory .now)) = c .before .before .before .before .before .before .front-of2 .ensures .2 in
+    let w : oldWords (oldsOf (c .before .before .before .before .before .before .before .before .before .before .before .before .args .entries) (c .before .before .before .before .before .before .before .before .before .before .before .before .args .directory .now)) ≡ oldWords (oldsOf (c .before .before .before .before .before .before .before .before .before .before .before .before .args .from) (c .before .before .before .before .before .before .before .before .before .before .before .before .args .directory .now)) + oldWords (drop (c .before .before .before .before .before .before .before .before .before .before .before .before .args .from) (oldsOf (c .before .before .before .before .before .before .before .before .before .before .before .before .args .entries) (c .before .before .before .before .before .before .before .before .before .before .before .before .args .directory .now))) = kept-words (c .before .before .before .before .before .before .before .before .before .before .before .before .args .entries) (c .before .before .before .before .before .before .before .before .before .before .before .before .args .from) (c .before .before .before .before .before .before .before .before .before .before .before .before .args .directory .now) (c .before .before .before .before .before .before .before .before .before .before .before .before .pre .1 .0 .0) in
+    ((c .before .before .before .before .before .before .before .before .before .before .before .before .pre .1 .0 .0, c .before .before .before .before .before .before .before .before .before .before .before .before .pre .0 .inside, omega (arith, c .before .before .before .before .before .before .before .before .before .before .before .before .pre .1 .1 .entries, olds-length (c .before .before .before .before .before .before .before .before .before .before .before .before .args .entries) (c .before .before .before .before .before .before .before .before .before .before .before .before .args .directory .now) (c .before .before .before .before .before .before .before .before .before .before .before .before .pre .0 .inside), length-drop (c .before .before .before .before .before .before .before .before .before .before .before .before .args .from) (oldsOf (c .before .before .before .before .before .before .before .before .before .before .before .before .args .entries) (c .before .before .before .before .before .before .before .before .before .before .before .before .args .directory .now)))), (c .before .before .before .before .before .before .before .before .before .before .before .before .pre .1 .0 .2, c .before .before .before .before .before .before .before .before .before .before .before .before .pre .1 .1 .small))
+
+-- src/kept.rt:166:5
+add-result : tie.Need-add-result
+add-result c = search needs
+
+-- src/kept.rt:154:1
+same-length : tie.Need-same-length
+same-length c = search needs
+
+-- src/kept.rt:154:1
+same-length-2 : tie.Need-same-length-2
+same-length-2 c = search needs
+
+-- src/kept.rt:154:1
+returns : tie.Need-returns
+returns c = let a : c .before .before .before .before .before .before .before .before .before .before .before .front-of .result .at ≡ oldWords (oldsOf (c .before .before .before .before .before .before .before .before .before .before .before .before .before .before .before .args .from) (c .before .before .before .before .before .before .before .before .before .before .before .before .before .before .before .args .directory .now)) = c .before .before .before .before .before .before .before .before .before .before .before .front-of .ensures .2 in
+    let z : c .before .before .before .before .before .before .before .before .before .front-of2 .result .at ≡ oldWords (oldsOf (c .before .before .before .before .before .before .before .before .before .before .before .before .before .before .before .args .entries) (c .before .before .before .before .before .before .before .before .before .before .before .before .before .before .before .args .directory .now)) = c .before .before .before .before .before .before .before .before .before .front-of2 .ensures .2 in
+    let w : oldWords (oldsOf (c .before .before .before .before .before .before .before .before .before .before .before .before .before .before .before .args .entries) (c .before .before .before .before .before .before .before .before .before .before .before .before .before .before .before .args .directory .now)) ≡ oldWords (oldsOf (c .before .before .before .before .before .before .before .before .before .before .before .before .before .before .before .args .from) (c .before .before .before .before .before .before .before .before .before .before .before .before .before .before .before .args .directory .now)) + oldWords (drop (c .before .before .before .before .before .before .before .before .before .before .before .before .before .before .before .args .from) (oldsOf (c .before .before .before .before .before .before .before .before .before .before .before .before .before .before .before .args .entries) (c .before .before .before .before .before .before .before .before .before .before .before .before .before .before .before .args .directory .now))) = kept-words (c .before .before .before .before .before .before .before .before .before .before .before .before .before .before .before .args .entries) (c .before .before .before .before .before .before .before .before .before .before .before .before .before .before .before .args .from) (c .before .before .before .before .before .before .before .before .before .before .before .before .before .before .before .args .directory .now) (c .before .before .before .before .before .before .before .before .before .before .before .before .before .before .before .pre .1 .0 .0) in
+    let m : c .before .before .before .before .before .before .before .before .before .front-of2 .result .at - c .before .before .before .before .before .before .before .before .before .before .before .front-of .result .at ≡ oldWords (drop (c .before .before .before .before .before .before .before .before .before .before .before .before .before .before .before .args .from) (oldsOf (c .before .before .before .before .before .before .before .before .before .before .before .before .before .before .before .args .entries) (c .before .before .before .before .before .before .before .before .before .before .before .before .before .before .before .args .directory .now))) = omega arith in
+    let f : c .before .before .before .before .before .before .before .before .before .before .before .front-of .result .at ≡ oldWords (take (c .before .before .before .before .before .before .before .before .before .before .before .before .before .before .before .args .from) (oldsOf (c .before .before .before .before .before .before .before .before .before .before .before .before .before .before .before .args .entries) (c .before .before .before .before .before .before .before .before .before .before .before .before .before .before .before .args .directory .now))) = a ∙ kept-first (c .before .before .before .before .before .before .before .before .before .before .before .before .before .before .before .args .entries) (c .before .before .before .before .before .before .before .before .before .before .before .before .before .before .before .args .from) (c .before .before .before .before .before .before .before .before .before .before .before .before .before .before .before .args .directory .now) (c .before .before .before .before .before .before .before .before .before .before .before .before .before .before .before .pre .1 .0 .0) in
+    record { end = ap (λ (x : ℕ). c .before .before .before .before .before .before .before .before .before .before .before .before .before .before .before .args .at + x) m; words = rw (← f, ← m) (c .before .before .before .before .before .before .move-words .ensures); entries = c .before .before .move-entries .ensures }
+
+pub keep-behind-spec : {M : Type 1} → statement M
+keep-behind-spec =
+    tie.close
+    (tie.spec
+    front-of-requires
+    front-of-requires-2
+    sub-n
+    move-words-requires
+    move-entries-requires
+    add-result
+    same-length
+    same-length-2
+    returns)

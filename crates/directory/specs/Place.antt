@@ -1,0 +1,49 @@
+-- Pieces that were read, in order, each a length and its words: what they add to a run, to the words and to the directory.
+-- Assumes nothing.
+use mathlib.Core.List.{List, [], _∷_, _++_}
+use Prim.Native.Nat.{ℕ, _+_, _-_, _*_}
+use lib.ListN.{length, take, drop}
+use Rattle.records.specs.Words.{pack}
+use Rattle.records.specs.Pieces.{Run, done, item, Source, fresh, before, Old, oldSizes, oldWords}
+use Rattle.directory.specs.Olds.{oldsOf, moved}
+
+-- in front of a full reading's run
+unfoldable pub fullThen : List (ℕ × List ℕ) → Run (List ℕ) → Run (List ℕ)
+fullThen [] r = r
+fullThen (x ∷ xs) r = item (x .0) (x .1) (fullThen xs r)
+
+-- in front of a re-reading's run
+unfoldable pub readThen : List (ℕ × List ℕ) → Run Source → Run Source
+readThen [] r = r
+readThen (x ∷ xs) r = item (x .0) (fresh (x .1)) (readThen xs r)
+
+-- how much text they take
+unfoldable pub readSize : List (ℕ × List ℕ) → ℕ
+readSize [] = 0
+readSize (x ∷ xs) = x .0 + readSize xs
+
+unfoldable pub readWords : List (ℕ × List ℕ) → List ℕ
+readWords [] = []
+readWords (x ∷ xs) = x .1 ++ readWords xs
+
+-- their entries, where they start at pos and at word `at`
+unfoldable pub readEntries : (pos at : ℕ) → List (ℕ × List ℕ) → List ℕ
+readEntries pos at [] = []
+readEntries pos at (x ∷ xs) = pack pos (x .0) ∷ pack at (length (x .1)) ∷ readEntries (pos + x .0) (at + length (x .1)) xs
+
+-- Re-reading, the older directory's n entries in hand: k old pieces are kept in front, then those of fs are read, then the old pieces from
+-- number j on are kept (j is n where none is).
+unfoldable pub restLeft : (n : ℕ) (dir : List ℕ) (j : ℕ) → List (ℕ × List ℕ) → Run Source
+restLeft n dir j fs = readThen fs (before (drop j (oldsOf n dir)) done)
+
+-- The words that this leaves.
+unfoldable pub wordsLeft : (ws : List ℕ) (n : ℕ) (dir : List ℕ) (k j : ℕ) → List (ℕ × List ℕ) → List ℕ
+wordsLeft ws n dir k j fs =
+    take (oldWords (take k (oldsOf n dir))) ws ++ (readWords fs ++ take (oldWords (drop j (oldsOf n dir))) (drop (oldWords (take j (oldsOf n dir))) ws))
+
+-- The directory's words.
+unfoldable pub entriesLeft : (n : ℕ) (dir : List ℕ) (k j : ℕ) → List (ℕ × List ℕ) → List ℕ
+entriesLeft n dir k j fs =
+    take (k * 2) dir
+    ++ (readEntries (oldSizes (take k (oldsOf n dir))) (oldWords (take k (oldsOf n dir))) fs
+    ++ moved (n - j) (oldSizes (take k (oldsOf n dir)) + readSize fs) (oldWords (take k (oldsOf n dir)) + length (readWords fs)) (drop (j * 2) dir))

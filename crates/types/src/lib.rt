@@ -1,0 +1,328 @@
+// The reader of types (parser.rs, "Types"). Each function writes the words of what it reads behind the cursor.
+use lexer::Num;
+use lexer::Parsed;
+ghost use mathlib.Core.Path.{_≡_};
+ghost use mathlib.Core.List.{List, [], _∷_};
+ghost use Prim.Native.Nat.{ℕ, _+_, _<_};
+ghost use Rattle.program.specs.Prog.{ret};
+ghost use Rattle.records.specs.Words.{node};
+ghost use Rattle.grammar.specs.Lexer.{refuse};
+ghost use Rattle.grammar.specs.Types.{listed, structFields, parseTypeList, intType, nameNode, optAddrspace, ptrType, arrayType, structType, packedType, parseBaseType, suffixes, noType, parseType};
+ghost use Rattle.lexer.specs.Table.{Classes};
+ghost use Rattle.lexer.specs.Reads.{Leads, Reads, Gives, made, same};
+ghost use Rattle.types.specs.Reading.{typed, Types, wordTypes};
+
+// A node that is its header.
+pub fn leaf(words: &mut [u64], p: Parsed, kind: u8) -> Parsed
+    ensures { λ r. ⌜ ((text : List ℕ) → Leads (ret (node kind 0 0 [])) 1 [] (made same text p) text p p (now (words .entry)) r (now (words .exit))) ⌝ }
+{
+    let q = lexer::push(words, p, 0);
+    lexer::close(words, p, q, kind, 0, 0)
+}
+
+// `iN`, behind the i.
+fn int_type(classes: &[u8; 256], text: &[u8], words: &mut [u64], p: Parsed) -> Parsed
+    requires { ⌜ Classes (now classes) ⌝ }
+    ensures { λ r. ⌜ Leads intType 2 [] (made same (now (text .entry)) p) (now (text .entry)) p p (now (words .entry)) r (now (words .exit)) ⌝ }
+{
+    let p1 = lexer::push(words, p, 0);
+    let n = lexer::parse_int(classes, text, p1, 1, 8388608);
+    let p2 = n.p;
+    let p3 = lexer::push(words, p2, n.v);
+    lexer::close(words, p, p3, 2, 0, 0)
+}
+
+// A node that holds a name, behind the sigil.
+pub fn name_node(classes: &[u8; 256], text: &[u8], words: &mut [u64], p: Parsed, kind: u8) -> Parsed
+    requires { ⌜ Classes (now classes) ⌝ }
+    ensures { λ r. ⌜ Leads (nameNode kind) 2 [] (made same (now (text .entry)) p) (now (text .entry)) p p (now (words .entry)) r (now (words .exit)) ⌝ }
+{
+    let p1 = lexer::push(words, p, 0);
+    let n = lexer::name_word(classes, text, p1);
+    let p2 = n.p;
+    let p3 = lexer::push(words, p2, n.v);
+    lexer::close(words, p, p3, kind, 0, 0)
+}
+
+// `addrspace(..)`, where it stands.
+fn opt_addrspace(classes: &[u8; 256], text: &[u8], p: Parsed) -> Parsed
+    requires { ⌜ Classes (now classes) ⌝ }
+    ensures { λ r. ⌜ Gives optAddrspace tt (now (text .entry)) p r ⌝ }
+{
+    if lexer::word(classes, text, p, b"addrspace") {
+        let q = lexer::pass(text, p, 9);
+        return lexer::skip_parens(classes, text, q);
+    }
+    p
+}
+
+// `ptr`, behind the word.
+fn ptr_type(classes: &[u8; 256], text: &[u8], words: &mut [u64], p: Parsed) -> Parsed
+    requires { ⌜ Classes (now classes) ⌝ }
+    ensures { λ r. ⌜ Leads ptrType 1 [] (made same (now (text .entry)) p) (now (text .entry)) p p (now (words .entry)) r (now (words .exit)) ⌝ }
+{
+    let p1 = lexer::push(words, p, 0);
+    let p2 = lexer::eat_ws(classes, text, p1);
+    let p3 = opt_addrspace(classes, text, p2);
+    lexer::close(words, p, p3, 5, 0, 0)
+}
+
+// The types that are a word, or 5. No two words stand at one place, so they are tried by how often they come.
+fn keyword_type(classes: &[u8; 256], text: &[u8], words: &mut [u64], p: Parsed) -> Parsed
+    requires { ⌜ Classes (now classes) ⌝ }
+    ensures { λ r. ⌜ Reads (wordTypes (refuse 5)) (now (text .entry)) p (now (words .entry)) r (now (words .exit)) ⌝ }
+{
+    if lexer::word(classes, text, p, b"ptr") {
+        let q = lexer::pass(text, p, 3);
+        return ptr_type(classes, text, words, q);
+    }
+    if lexer::word(classes, text, p, b"void") {
+        let q = lexer::pass(text, p, 4);
+        return leaf(words, q, 1);
+    }
+    if lexer::word(classes, text, p, b"double") {
+        let q = lexer::pass(text, p, 6);
+        return leaf(words, q, 4);
+    }
+    if lexer::word(classes, text, p, b"float") {
+        let q = lexer::pass(text, p, 5);
+        return leaf(words, q, 3);
+    }
+    if lexer::word(classes, text, p, b"label") {
+        let q = lexer::pass(text, p, 5);
+        return leaf(words, q, 9);
+    }
+    if lexer::word(classes, text, p, b"metadata") {
+        let q = lexer::pass(text, p, 8);
+        return leaf(words, q, 10);
+    }
+    lexer::refuse(p, 5)
+}
+
+// A list's answer: how many, and 1 where `...` ends it.
+pub struct Listed {
+    pub p: Parsed,
+    pub n: u16,
+    pub dots: u8,
+}
+
+// One more, below the children's limit.
+pub fn one_more(n: u16) -> u16
+    ensures { λ r. ⌜ (n < 65535 → r ≡ n + 1) ⌝ }
+{
+    if n < 65535 {
+        return n + 1;
+    }
+    n
+}
+
+// What a type refuses with where none begins.
+fn no_type(depth: usize) -> u64
+    ensures { λ r. ⌜ r ≡ noType depth ⌝ }
+{
+    if depth == 0 {
+        return 16;
+    }
+    5
+}
+
+// `{ T, T, .. }`, behind the opening brace.
+fn parse_struct_fields(classes: &[u8; 256], text: &[u8], words: &mut [u64], p: Parsed, depth: usize) -> Listed
+    requires { ⌜ Classes (now classes) ⌝ }
+    ensures { λ r. ⌜ Leads (structFields (parseType depth)) 0 [] (made (listed (r .n) 0) (now (text .entry)) p) (now (text .entry)) p p (now (words .entry)) (r .p) (now (words .exit)) ⌝ }
+{
+    let mut q = lexer::eat_ws(classes, text, p);
+    if lexer::looks(text, q, 125) {
+        let q1 = lexer::pass(text, q, 1);
+        return Listed { p: q1, n: 0, dots: 0 };
+    }
+    let mut left: u16 = 65535;
+    let mut n: u16 = 0;
+    while 0 < left {
+        let q1 = parse_type(classes, text, words, q, depth);
+        let q2 = lexer::eat_ws(classes, text, q1);
+        if lexer::looks(text, q2, 44) {
+            q = lexer::pass(text, q2, 1);
+            left -= 1;
+            n = one_more(n);
+        } else {
+            if lexer::looks(text, q2, 125) {
+                let q3 = lexer::pass(text, q2, 1);
+                let m = one_more(n);
+                return Listed { p: q3, n: m, dots: 0 };
+            }
+            let q3 = lexer::refuse(q2, 3);
+            return Listed { p: q3, n: 0, dots: 0 };
+        }
+    }
+    let q1 = parse_type(classes, text, words, q, depth);
+    let q2 = lexer::refuse(q1, 19);
+    Listed { p: q2, n: 0, dots: 0 }
+}
+
+// Types with attributes, `...` in the last place, through the parenthesis (`parse_type_list`).
+pub fn parse_type_list(classes: &[u8; 256], text: &[u8], words: &mut [u64], p: Parsed, depth: usize) -> Listed
+    requires { ⌜ Classes (now classes) ⌝ }
+    ensures { λ r. ⌜ Leads (parseTypeList (noType depth) (parseType depth)) 0 [] (made (listed (r .n) (r .dots)) (now (text .entry)) p) (now (text .entry)) p p (now (words .entry)) (r .p) (now (words .exit)) ⌝ }
+{
+    let mut q = lexer::eat_ws(classes, text, p);
+    if lexer::looks(text, q, 41) {
+        let q1 = lexer::pass(text, q, 1);
+        return Listed { p: q1, n: 0, dots: 0 };
+    }
+    let bad = no_type(depth);
+    let mut left: u16 = 65534;
+    let mut n: u16 = 0;
+    while 0 < left {
+        let q1 = lexer::eat_ws(classes, text, q);
+        if lexer::looks(text, q1, 46) {
+            let q2 = lexer::three_dots(text, q1, bad);
+            let q3 = lexer::expect_token(classes, text, q2, 41);
+            return Listed { p: q3, n, dots: 1 };
+        }
+        let q2 = parse_type(classes, text, words, q1, depth);
+        let q3 = attributes::skip_attrs(classes, text, q2);
+        let q4 = lexer::eat_ws(classes, text, q3);
+        if lexer::looks(text, q4, 44) {
+            q = lexer::pass(text, q4, 1);
+            left -= 1;
+            n = one_more(n);
+        } else {
+            if lexer::looks(text, q4, 41) {
+                let q5 = lexer::pass(text, q4, 1);
+                let m = one_more(n);
+                return Listed { p: q5, n: m, dots: 0 };
+            }
+            let q5 = lexer::refuse(q4, 3);
+            return Listed { p: q5, n: 0, dots: 0 };
+        }
+    }
+    let q1 = lexer::eat_ws(classes, text, q);
+    if lexer::looks(text, q1, 46) {
+        let q2 = lexer::three_dots(text, q1, bad);
+        let q3 = lexer::expect_token(classes, text, q2, 41);
+        return Listed { p: q3, n, dots: 1 };
+    }
+    let q2 = parse_type(classes, text, words, q1, depth);
+    let q3 = lexer::refuse(q2, 19);
+    Listed { p: q3, n: 0, dots: 0 }
+}
+
+// `[N x T]` and `<N x T>`, behind the opening byte.
+fn array_type(classes: &[u8; 256], text: &[u8], words: &mut [u64], p: Parsed, packed: u8, end: u8, depth: usize) -> Parsed
+    requires { ⌜ Classes (now classes) ⌝ }
+    ensures { λ r. ⌜ ((end ≡ 40 → ⊥) → Leads (arrayType packed end (parseType depth)) 2 [] (made same (now (text .entry)) p) (now (text .entry)) p p (now (words .entry)) r (now (words .exit))) ⌝ }
+{
+    let p1 = lexer::push(words, p, 0);
+    let p2 = lexer::eat_ws(classes, text, p1);
+    let n = lexer::parse_int(classes, text, p2, 0, 18446744073709551615);
+    let p3 = n.p;
+    let p4 = lexer::push(words, p3, n.v);
+    let p5 = lexer::expect_keyword(classes, text, p4, b"x");
+    let p6 = parse_type(classes, text, words, p5, depth);
+    let p7 = lexer::expect_token(classes, text, p6, end);
+    lexer::close(words, p, p7, 6, packed, 1)
+}
+
+// `{..}`, behind the opening brace.
+fn struct_type(classes: &[u8; 256], text: &[u8], words: &mut [u64], p: Parsed, depth: usize) -> Parsed
+    requires { ⌜ Classes (now classes) ⌝ }
+    ensures { λ r. ⌜ Leads (structType (parseType depth)) 1 [] (made same (now (text .entry)) p) (now (text .entry)) p p (now (words .entry)) r (now (words .exit)) ⌝ }
+{
+    let p1 = lexer::push(words, p, 0);
+    let l = parse_struct_fields(classes, text, words, p1, depth);
+    let p2 = l.p;
+    lexer::close(words, p, p2, 8, 0, l.n)
+}
+
+// `<{..}>` and `<N x T>`, behind the `<`.
+fn packed_type(classes: &[u8; 256], text: &[u8], words: &mut [u64], p: Parsed, depth: usize) -> Parsed
+    requires { ⌜ Classes (now classes) ⌝ }
+    ensures { λ r. ⌜ Leads (packedType (parseType depth)) 2 [] (made same (now (text .entry)) p) (now (text .entry)) p p (now (words .entry)) r (now (words .exit)) ⌝ }
+{
+    if lexer::looks(text, p, 123) {
+        let p1 = lexer::pass(text, p, 1);
+        let p2 = lexer::push(words, p1, 0);
+        let l = parse_struct_fields(classes, text, words, p2, depth);
+        let p3 = l.p;
+        let p4 = lexer::expect_token(classes, text, p3, 62);
+        return lexer::close(words, p, p4, 8, 1, l.n);
+    }
+    array_type(classes, text, words, p, 1, 62, depth)
+}
+
+// A type without what may stand behind it. No keyword begins with a byte that is tried first.
+fn parse_base_type(classes: &[u8; 256], text: &[u8], words: &mut [u64], p: Parsed, depth: usize) -> Parsed
+    requires { ⌜ Classes (now classes) ⌝ }
+    ensures { λ r. ⌜ Reads (parseBaseType (parseType depth)) (now (text .entry)) p (now (words .entry)) r (now (words .exit)) ⌝ }
+{
+    if lexer::looks(text, p, 105) {
+        let q = lexer::pass(text, p, 1);
+        return int_type(classes, text, words, q);
+    }
+    if lexer::looks(text, p, 37) {
+        let q = lexer::pass(text, p, 1);
+        return name_node(classes, text, words, q, 7);
+    }
+    if lexer::looks(text, p, 91) {
+        let q = lexer::pass(text, p, 1);
+        return array_type(classes, text, words, q, 0, 93, depth);
+    }
+    if lexer::looks(text, p, 123) {
+        let q = lexer::pass(text, p, 1);
+        return struct_type(classes, text, words, q, depth);
+    }
+    if lexer::looks(text, p, 60) {
+        let q = lexer::pass(text, p, 1);
+        return packed_type(classes, text, words, q, depth);
+    }
+    keyword_type(classes, text, words, p)
+}
+
+// What may stand behind a type, whose words begin at p0.
+fn type_suffixes(classes: &[u8; 256], text: &[u8], words: &mut [u64], p0: Parsed, p: Parsed, depth: usize) -> Parsed
+    requires { ⌜ Classes (now classes) ⌝ }
+    ensures { λ r. ⌜ ((t : List ℕ) → Leads (suffixes 16777217 (noType depth) (parseType depth) t) 0 t (typed (parseTypeList (noType depth) (parseType depth)) (now (text .entry)) p0) (now (text .entry)) p0 p (now (words .entry)) r (now (words .exit))) ⌝ }
+{
+    let mut q = p;
+    let mut left: usize = 16777217;
+    while 0 < left {
+        let q1 = lexer::eat_ws(classes, text, q);
+        if lexer::looks(text, q1, 40) {
+            let r1 = lexer::pass(text, q1, 1);
+            let l = parse_type_list(classes, text, words, r1, depth);
+            let r2 = l.p;
+            let r3 = lexer::eat_ws(classes, text, r2);
+            if lexer::looks(text, r3, 42) {
+                let r4 = lexer::pass(text, r3, 1);
+                q = lexer::replace(words, p0, r4, 360287970189639681);
+                left -= 1;
+            } else {
+                return lexer::back_to(q1, r3);
+            }
+        } else {
+            let q2 = opt_addrspace(classes, text, q1);
+            if lexer::looks(text, q2, 42) {
+                let q3 = lexer::pass(text, q2, 1);
+                q = lexer::replace(words, p0, q3, 360287970189639681);
+                left -= 1;
+            } else {
+                return q2;
+            }
+        }
+    }
+    q
+}
+
+// A type (`parse_type`). At a parenthesis behind it that no `*` follows the cursor is back at the parenthesis.
+pub fn parse_type(classes: &[u8; 256], text: &[u8], words: &mut [u64], p: Parsed, depth: usize) -> Parsed
+    requires { ⌜ Classes (now classes) ⌝ }
+    ensures { λ r. ⌜ Types depth (now (text .entry)) p (now (words .entry)) r (now (words .exit)) ⌝ }
+{
+    let q = lexer::eat_ws(classes, text, p);
+    if depth == 0 {
+        return lexer::refuse(q, 16);
+    }
+    let r = parse_base_type(classes, text, words, q, depth - 1);
+    type_suffixes(classes, text, words, q, r, depth - 1)
+}
