@@ -19,8 +19,34 @@ fn paren_attr(classes: &[u8; 256], text: &[u8], p: Parsed) -> Ranked
     requires { ⌜ Classes (now classes) ⌝ }
     ensures { λ r. ⌜ (r .r ≡ rankP parenAttrs (now (text .entry)) p) × (r .p ≡ rankedP parenAttrs (now (text .entry)) p) ⌝ }
 {
-    let lens: [u8; 19] = [8, 6, 5, 15, 23, 5, 5, 4, 8, 12, 11, 10, 9, 9, 12, 9, 9, 11, 14];
-    lexer::match_rank(classes, text, p, &lens, b"capturesmemoryrangedereferenceabledereferenceable_or_nullbyvalbyrefsretinallocapreallocatedelementtypealignstackallocsizeallockindvscale_rangenofpclassaddrspaceinitializesdead_on_return")
+    let lens: [u8; 19] = [
+        8,
+        6,
+        5,
+        15,
+        23,
+        5,
+        5,
+        4,
+        8,
+        12,
+        11,
+        10,
+        9,
+        9,
+        12,
+        9,
+        9,
+        11,
+        14,
+    ];
+    lexer::match_rank(
+        classes,
+        text,
+        p,
+        &lens,
+        b"capturesmemoryrangedereferenceabledereferenceable_or_nullbyvalbyrefsretinallocapreallocatedelementtypealignstackallocsizeallockindvscale_rangenofpclassaddrspaceinitializesdead_on_return",
+    )
 }
 
 // An attribute that is a word alone (`FLAG_ATTRS`).
@@ -28,8 +54,79 @@ fn flag_attr(classes: &[u8; 256], text: &[u8], p: Parsed) -> Ranked
     requires { ⌜ Classes (now classes) ⌝ }
     ensures { λ r. ⌜ (r .r ≡ rankP flagAttrs (now (text .entry)) p) × (r .p ≡ rankedP flagAttrs (now (text .entry)) p) ⌝ }
 {
-    let lens: [u8; 64] = [7, 8, 20, 8, 12, 4, 8, 9, 6, 11, 8, 6, 9, 7, 9, 15, 12, 18, 6, 7, 7, 7, 7, 5, 7, 9, 8, 8, 9, 6, 8, 4, 8, 14, 14, 8, 6, 12, 10, 9, 6, 10, 7, 8, 8, 12, 10, 7, 7, 7, 4, 3, 10, 12, 9, 15, 9, 8, 3, 9, 6, 16, 15, 15];
-    lexer::match_rank(classes, text, p, &lens, b"privateinternalavailable_externallylinkoncelinkonce_odrweakweak_odrappendingcommonextern_weakexternalhiddenprotecteddefaultdso_localdso_preemptableunnamed_addrlocal_unnamed_addrcomdatnoundefnonnullsignextzeroextinregnoaliasnocapturereadonlyreadnonewriteonlyimmargreturnednestwritabledead_on_unwinddead_on_returnnounwindnofreemustprogresswillreturnnorecursenosyncnocallbackuwtablenoreturnnoinlinealwaysinlineinlinehintoptsizeoptnoneminsizecoldhotconvergentspeculatablenobuiltinnoimplicitfloatnoredzonestrictfpsspsspstrongsspreqsanitize_addresssanitize_memorysanitize_thread")
+    let lens: [u8; 64] = [
+        7,
+        8,
+        20,
+        8,
+        12,
+        4,
+        8,
+        9,
+        6,
+        11,
+        8,
+        6,
+        9,
+        7,
+        9,
+        15,
+        12,
+        18,
+        6,
+        7,
+        7,
+        7,
+        7,
+        5,
+        7,
+        9,
+        8,
+        8,
+        9,
+        6,
+        8,
+        4,
+        8,
+        14,
+        14,
+        8,
+        6,
+        12,
+        10,
+        9,
+        6,
+        10,
+        7,
+        8,
+        8,
+        12,
+        10,
+        7,
+        7,
+        7,
+        4,
+        3,
+        10,
+        12,
+        9,
+        15,
+        9,
+        8,
+        3,
+        9,
+        6,
+        16,
+        15,
+        15,
+    ];
+    lexer::match_rank(
+        classes,
+        text,
+        p,
+        &lens,
+        b"privateinternalavailable_externallylinkoncelinkonce_odrweakweak_odrappendingcommonextern_weakexternalhiddenprotecteddefaultdso_localdso_preemptableunnamed_addrlocal_unnamed_addrcomdatnoundefnonnullsignextzeroextinregnoaliasnocapturereadonlyreadnonewriteonlyimmargreturnednestwritabledead_on_unwinddead_on_returnnounwindnofreemustprogresswillreturnnorecursenosyncnocallbackuwtablenoreturnnoinlinealwaysinlineinlinehintoptsizeoptnoneminsizecoldhotconvergentspeculatablenobuiltinnoimplicitfloatnoredzonestrictfpsspsspstrongsspreqsanitize_addresssanitize_memorysanitize_thread",
+    )
 }
 
 // A linkage, in ast.rs order.
@@ -38,7 +135,13 @@ fn linkage(classes: &[u8; 256], text: &[u8], p: Parsed) -> Ranked
     ensures { λ r. ⌜ (r .r ≡ rankP linkages (now (text .entry)) p) × (r .p ≡ rankedP linkages (now (text .entry)) p) ⌝ }
 {
     let lens: [u8; 11] = [7, 8, 20, 8, 4, 6, 9, 11, 12, 8, 8];
-    lexer::match_rank(classes, text, p, &lens, b"privateinternalavailable_externallylinkonceweakcommonappendingextern_weaklinkonce_odrweak_odrexternal")
+    lexer::match_rank(
+        classes,
+        text,
+        p,
+        &lens,
+        b"privateinternalavailable_externallylinkonceweakcommonappendingextern_weaklinkonce_odrweak_odrexternal",
+    )
 }
 
 // A calling convention (`CCONVS`).
@@ -47,7 +150,13 @@ fn cconv(classes: &[u8; 256], text: &[u8], p: Parsed) -> Ranked
     ensures { λ r. ⌜ (r .r ≡ rankP callingConventions (now (text .entry)) p) × (r .p ≡ rankedP callingConventions (now (text .entry)) p) ⌝ }
 {
     let lens: [u8; 10] = [3, 6, 6, 6, 7, 11, 8, 15, 14, 14];
-    lexer::match_rank(classes, text, p, &lens, b"cccfastcccoldcctailccswiftccswifttailccanyregccpreserve_mostccpreserve_allcccxx_fast_tlscc")
+    lexer::match_rank(
+        classes,
+        text,
+        p,
+        &lens,
+        b"cccfastcccoldcctailccswiftccswifttailccanyregccpreserve_mostccpreserve_allcccxx_fast_tlscc",
+    )
 }
 
 // Flags of integer arithmetic.
@@ -65,7 +174,13 @@ pub fn skip_fast_math_flags(classes: &[u8; 256], text: &[u8], p: Parsed) -> Pars
     ensures { λ r. ⌜ Gives skipFastMathFlags tt (now (text .entry)) p r ⌝ }
 {
     let lens: [u8; 8] = [4, 4, 4, 3, 4, 8, 3, 7];
-    lexer::skip_all(classes, text, p, &lens, b"fastnnanninfnszarcpcontractafnreassoc")
+    lexer::skip_all(
+        classes,
+        text,
+        p,
+        &lens,
+        b"fastnnanninfnszarcpcontractafnreassoc",
+    )
 }
 
 // Flags of conversions.

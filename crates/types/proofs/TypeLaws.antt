@@ -237,6 +237,7 @@ opened-run g x t j i e l text h n = bind-at g (λ l. eatWs >>= λ _. byteIf 42 x
         y ∙ cc
     go2 m y (closed ws d) w = absurd (let z : _≡_ {A = ℕ} 0 1 = cc in omega arith)
     go2 m y (no-at a d) w = absurd (let z : _≡_ {A = ℕ} 0 1 = cc in omega arith)
+
     go : (r : Res Listed) → after (λ l. eatWs >>= λ _. ret l) text r ≡ ok l e → after (λ l. eatWs >>= λ _. byteIf 42 x (ret (opened t l j))) text r ≡ ok (opened t l j) e
     go (ok m y) w = bind-at eatWs (λ _. byteIf 42 x (ret (opened t m j))) text y ∙ go2 m y (run eatWs y (drop y text)) (sym (bind-at eatWs (λ _. ret m) text y) ∙ w)
     go (closed ws y) w = absurd (let z : _≡_ {A = ℕ} 0 1 = cc in omega arith)
@@ -286,16 +287,22 @@ module _ (f : Prog TypeOut) (bad : ℕ) {text : List ℕ} {p0 q q1 : Parsed} {v 
       where
         body : ℕ → Prog TypeOut
         body j = byteIf 40 (parseTypeList bad f >>= λ l. eatWs >>= λ _. byteIf 42 (suffixes (u - 1) bad f ptrWords) (ret (opened t l j))) (optAddrspace >>= λ _. byteIf 42 (suffixes (u - 1) bad f ptrWords) (ret (plain t)))
+
         inner : ℕ → Prog TypeOut
         inner j = parseTypeList bad f >>= λ l. eatWs >>= λ _. byteIf 42 (suffixes (u - 1) bad f ptrWords) (ret (opened t l j))
+
         some : (cur : Cursor) → q1 ≡ Ok cur → isByte 40 (byteAt (drop (cur .at) text)) ≡ true
         some cur e = ap (λ (z : Parsed). looksP text z 40) (sym e) ∙ sym l ∙ y
+
         more-text : (cur : Cursor) → q1 ≡ Ok cur → 1 ≤ length (drop (cur .at) text)
         more-text cur e = some-forty (drop (cur .at) text) (is-forty (drop (cur .at) text) (some cur e))
+
         start : (cur : Cursor) → q1 ≡ Ok cur → cur .at ≤ length text → r1 ≡ Ok (record { at = cur .at + 1; w = cur .w })
         start cur e h = x ∙ ap (passed text 1) e ∙ pass-in text 1 cur h (more-text cur e)
+
         step : (cur : Cursor) → q1 ≡ Ok cur → run (body (cur .at)) (cur .at) (drop (cur .at) text) ≡ run (inner (cur .at)) (cur .at + 1) (drop (cur .at + 1) text)
         step cur e = byte-run 40 _ _ text (cur .at) true (some cur e) ∙ run-eat (inner (cur .at)) text (cur .at) (more-text cur e)
+
         conv : (b : Budget) (low : List ℕ) (k : ℕ) (cur : Cursor) → q1 ≡ Ok cur → At b text p0 (0 + k) low t cur v → {w : Res Listed} {r : Parsed} → z2 ≡ looksP text r 42 → run (spaced (parseTypeList bad f)) (cur .at + 1) (drop (cur .at + 1) text) ≡ w → Ends b text r1 k (low ++ t) (listed n d) w r v2 → TypeEnds (parseTypeList bad f) b text p0 k low (run (body (cur .at)) (cur .at) (drop (cur .at) text)) (backTo q1 r) v2
         conv b low k cur e a no-star h (at {ws = ws} {cur = cur2} c) =
             let res : run (body (cur .at)) (cur .at) (drop (cur .at) text) ≡ ok (opened t (listed n d ws) (cur .at)) (cur2 .at) = step cur e ∙ opened-run (parseTypeList bad f) (suffixes (u - 1) bad f ptrWords) t (cur .at) (cur .at + 1) (cur2 .at) (listed n d ws) text h (sym no-star ∙ y2) in
@@ -303,10 +310,13 @@ module _ (f : Prog TypeOut) (bad : ℕ) {text : List ℕ} {p0 q q1 : Parsed} {v 
         conv b low k cur e a no-star h (out {e = en} {q = qn}) =
             let res : run (body (cur .at)) (cur .at) (drop (cur .at) text) ≡ no-at en qn = step cur e ∙ refused-run (parseTypeList bad f) (suffixes (u - 1) bad f ptrWords) t (cur .at) (cur .at + 1) en qn text h in
             rw res none
+
         list : Leads (spaced (parseTypeList bad f)) 0 [] (made (listed n d) text r1) text r1 r1 v r3 v2
         list = spaced-list (parseTypeList bad f) n d i gv
+
         list-at : (b : Budget) (low : List ℕ) (k : ℕ) (cur : Cursor) → q1 ≡ Ok cur → At b text p0 (0 + k) low t cur v → At b text r1 (0 + k) (low ++ t) [] (record { at = cur .at + 1; w = cur .w }) v
         list-at b low k cur e a = at-part (start cur e (a .inside)) (at-place (cur .at + 1) (0 + k) (omega arith) (omega (arith, more-text cur e, length-drop (cur .at) text)) (omega arith) a)
+
         ends : Leads (place >>= body) 0 t (typed (parseTypeList bad f) text p0) text p0 q1 v r4 v2
         ends = record {
           runs = λ b low k cur e a. rw o (conv b low k cur e a l2 refl (list .runs b (low ++ t) k _ (start cur e (a .inside)) (list-at b low k cur e a)));
@@ -359,6 +369,7 @@ first-other b k ks (x ∷ s) h n = go (isWord x) refl
         and-second : (z : Bool) → (z && eqb x b) ≡ true → eqb x b ≡ true
         and-second true e = e
         and-second false e = true-false e
+
     go : (z : Bool) → isWord x ≡ z → sameWord (leadWord (x ∷ s)) (k ∷ ks) ≡ false
     go true e = rw (leadWord, e) (rw (same, n))
     go false e = rw (leadWord, e)
@@ -406,6 +417,7 @@ module _ (f : Prog TypeOut) {text : List ℕ} {c : ℕ} {mid : List ℕ} {E : Go
     where
       seen : (cur : Cursor) → p ≡ Ok cur → (b : ℕ) {r : Bool} → r ≡ looksP text p b → r ≡ false → isByte b (byteAt (drop (cur .at) text)) ≡ false
       seen cur t b l y = ap (λ (z : Parsed). looksP text z b) (sym t) ∙ sym l ∙ y
+
       bytes-run : (cur : Cursor) → p ≡ Ok cur → run (byteTypes f) (cur .at) (drop (cur .at) text) ≡ run (refuse 5) (cur .at) (drop (cur .at) text)
       bytes-run cur t =
           byte-run 105 _ _ text (cur .at) false (seen cur t 105 l1 y1) ∙ byte-run 37 _ _ text (cur .at) false (seen cur t 37 l2 y2) ∙ byte-run 91 _ _ text (cur .at) false (seen cur t 91 l3 y3) ∙

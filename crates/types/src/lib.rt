@@ -127,14 +127,24 @@ fn no_type(depth: usize) -> u64
 }
 
 // `{ T, T, .. }`, behind the opening brace.
-fn parse_struct_fields(classes: &[u8; 256], text: &[u8], words: &mut [u64], p: Parsed, depth: usize) -> Listed
+fn parse_struct_fields(
+    classes: &[u8; 256],
+    text: &[u8],
+    words: &mut [u64],
+    p: Parsed,
+    depth: usize,
+) -> Listed
     requires { ⌜ Classes (now classes) ⌝ }
     ensures { λ r. ⌜ Leads (structFields (parseType depth)) 0 [] (made (listed (r .n) 0) (now (text .entry)) p) (now (text .entry)) p p (now (words .entry)) (r .p) (now (words .exit)) ⌝ }
 {
     let mut q = lexer::eat_ws(classes, text, p);
     if lexer::looks(text, q, 125) {
         let q1 = lexer::pass(text, q, 1);
-        return Listed { p: q1, n: 0, dots: 0 };
+        return Listed {
+            p: q1,
+            n: 0,
+            dots: 0,
+        };
     }
     let mut left: u16 = 65535;
     let mut n: u16 = 0;
@@ -149,26 +159,48 @@ fn parse_struct_fields(classes: &[u8; 256], text: &[u8], words: &mut [u64], p: P
             if lexer::looks(text, q2, 125) {
                 let q3 = lexer::pass(text, q2, 1);
                 let m = one_more(n);
-                return Listed { p: q3, n: m, dots: 0 };
+                return Listed {
+                    p: q3,
+                    n: m,
+                    dots: 0,
+                };
             }
             let q3 = lexer::refuse(q2, 3);
-            return Listed { p: q3, n: 0, dots: 0 };
+            return Listed {
+                p: q3,
+                n: 0,
+                dots: 0,
+            };
         }
     }
     let q1 = parse_type(classes, text, words, q, depth);
     let q2 = lexer::refuse(q1, 19);
-    Listed { p: q2, n: 0, dots: 0 }
+    Listed {
+        p: q2,
+        n: 0,
+        dots: 0,
+    }
 }
 
 // Types with attributes, `...` in the last place, through the parenthesis (`parse_type_list`).
-pub fn parse_type_list(classes: &[u8; 256], text: &[u8], words: &mut [u64], p: Parsed, depth: usize) -> Listed
+pub fn parse_type_list(
+    classes: &[u8; 256],
+    text: &[u8],
+    words: &mut [u64],
+    p: Parsed,
+    depth: usize,
+) -> Listed
     requires { ⌜ Classes (now classes) ⌝ }
     ensures { λ r. ⌜ Leads (parseTypeList (noType depth) (parseType depth)) 0 [] (made (listed (r .n) (r .dots)) (now (text .entry)) p) (now (text .entry)) p p (now (words .entry)) (r .p) (now (words .exit)) ⌝ }
 {
     let mut q = lexer::eat_ws(classes, text, p);
     if lexer::looks(text, q, 41) {
         let q1 = lexer::pass(text, q, 1);
-        return Listed { p: q1, n: 0, dots: 0 };
+        return Listed {
+            p: q1,
+            n: 0,
+            dots: 0,
+        };
     }
     let bad = no_type(depth);
     let mut left: u16 = 65534;
@@ -191,10 +223,18 @@ pub fn parse_type_list(classes: &[u8; 256], text: &[u8], words: &mut [u64], p: P
             if lexer::looks(text, q4, 41) {
                 let q5 = lexer::pass(text, q4, 1);
                 let m = one_more(n);
-                return Listed { p: q5, n: m, dots: 0 };
+                return Listed {
+                    p: q5,
+                    n: m,
+                    dots: 0,
+                };
             }
             let q5 = lexer::refuse(q4, 3);
-            return Listed { p: q5, n: 0, dots: 0 };
+            return Listed {
+                p: q5,
+                n: 0,
+                dots: 0,
+            };
         }
     }
     let q1 = lexer::eat_ws(classes, text, q);
@@ -205,11 +245,23 @@ pub fn parse_type_list(classes: &[u8; 256], text: &[u8], words: &mut [u64], p: P
     }
     let q2 = parse_type(classes, text, words, q1, depth);
     let q3 = lexer::refuse(q2, 19);
-    Listed { p: q3, n: 0, dots: 0 }
+    Listed {
+        p: q3,
+        n: 0,
+        dots: 0,
+    }
 }
 
 // `[N x T]` and `<N x T>`, behind the opening byte.
-fn array_type(classes: &[u8; 256], text: &[u8], words: &mut [u64], p: Parsed, packed: u8, end: u8, depth: usize) -> Parsed
+fn array_type(
+    classes: &[u8; 256],
+    text: &[u8],
+    words: &mut [u64],
+    p: Parsed,
+    packed: u8,
+    end: u8,
+    depth: usize,
+) -> Parsed
     requires { ⌜ Classes (now classes) ⌝ }
     ensures { λ r. ⌜ ((end ≡ 40 → ⊥) → Leads (arrayType packed end (parseType depth)) 2 [] (made same (now (text .entry)) p) (now (text .entry)) p p (now (words .entry)) r (now (words .exit))) ⌝ }
 {
@@ -225,7 +277,13 @@ fn array_type(classes: &[u8; 256], text: &[u8], words: &mut [u64], p: Parsed, pa
 }
 
 // `{..}`, behind the opening brace.
-fn struct_type(classes: &[u8; 256], text: &[u8], words: &mut [u64], p: Parsed, depth: usize) -> Parsed
+fn struct_type(
+    classes: &[u8; 256],
+    text: &[u8],
+    words: &mut [u64],
+    p: Parsed,
+    depth: usize,
+) -> Parsed
     requires { ⌜ Classes (now classes) ⌝ }
     ensures { λ r. ⌜ Leads (structType (parseType depth)) 1 [] (made same (now (text .entry)) p) (now (text .entry)) p p (now (words .entry)) r (now (words .exit)) ⌝ }
 {
@@ -236,7 +294,13 @@ fn struct_type(classes: &[u8; 256], text: &[u8], words: &mut [u64], p: Parsed, d
 }
 
 // `<{..}>` and `<N x T>`, behind the `<`.
-fn packed_type(classes: &[u8; 256], text: &[u8], words: &mut [u64], p: Parsed, depth: usize) -> Parsed
+fn packed_type(
+    classes: &[u8; 256],
+    text: &[u8],
+    words: &mut [u64],
+    p: Parsed,
+    depth: usize,
+) -> Parsed
     requires { ⌜ Classes (now classes) ⌝ }
     ensures { λ r. ⌜ Leads (packedType (parseType depth)) 2 [] (made same (now (text .entry)) p) (now (text .entry)) p p (now (words .entry)) r (now (words .exit)) ⌝ }
 {
@@ -252,7 +316,13 @@ fn packed_type(classes: &[u8; 256], text: &[u8], words: &mut [u64], p: Parsed, d
 }
 
 // A type without what may stand behind it. No keyword begins with a byte that is tried first.
-fn parse_base_type(classes: &[u8; 256], text: &[u8], words: &mut [u64], p: Parsed, depth: usize) -> Parsed
+fn parse_base_type(
+    classes: &[u8; 256],
+    text: &[u8],
+    words: &mut [u64],
+    p: Parsed,
+    depth: usize,
+) -> Parsed
     requires { ⌜ Classes (now classes) ⌝ }
     ensures { λ r. ⌜ Reads (parseBaseType (parseType depth)) (now (text .entry)) p (now (words .entry)) r (now (words .exit)) ⌝ }
 {
@@ -280,7 +350,14 @@ fn parse_base_type(classes: &[u8; 256], text: &[u8], words: &mut [u64], p: Parse
 }
 
 // What may stand behind a type, whose words begin at p0.
-fn type_suffixes(classes: &[u8; 256], text: &[u8], words: &mut [u64], p0: Parsed, p: Parsed, depth: usize) -> Parsed
+fn type_suffixes(
+    classes: &[u8; 256],
+    text: &[u8],
+    words: &mut [u64],
+    p0: Parsed,
+    p: Parsed,
+    depth: usize,
+) -> Parsed
     requires { ⌜ Classes (now classes) ⌝ }
     ensures { λ r. ⌜ ((t : List ℕ) → Leads (suffixes 16777217 (noType depth) (parseType depth) t) 0 t (typed (parseTypeList (noType depth) (parseType depth)) (now (text .entry)) p0) (now (text .entry)) p0 p (now (words .entry)) r (now (words .exit))) ⌝ }
 {
@@ -315,7 +392,13 @@ fn type_suffixes(classes: &[u8; 256], text: &[u8], words: &mut [u64], p0: Parsed
 }
 
 // A type (`parse_type`). At a parenthesis behind it that no `*` follows the cursor is back at the parenthesis.
-pub fn parse_type(classes: &[u8; 256], text: &[u8], words: &mut [u64], p: Parsed, depth: usize) -> Parsed
+pub fn parse_type(
+    classes: &[u8; 256],
+    text: &[u8],
+    words: &mut [u64],
+    p: Parsed,
+    depth: usize,
+) -> Parsed
     requires { ⌜ Classes (now classes) ⌝ }
     ensures { λ r. ⌜ Types depth (now (text .entry)) p (now (words .entry)) r (now (words .exit)) ⌝ }
 {

@@ -1,24 +1,12 @@
 use borrow.Author.Needs.{needs}
 use Rattle.lexer.proofs.refuse.Statement.{statement}
 use Rattle.lexer.proofs.refuse.Tie as tie
-use Rattle.lexer.proofs.refuse.Reads as reads
-use Rattle.lexer.proofs.refuse.Lts as lts
 
--- src/lib.rt:207:20
-enum-known-p : tie.Need-enum-known-p
-enum-known-p c = search needs
-
--- src/lib.rt:208:25
-enum-known-p-2 : tie.Need-enum-known-p-2
-enum-known-p-2 c = search needs
-
--- src/lib.rt:203:1
 returns : tie.Need-returns
 returns c = rw (c .before .p .given .1)
 
--- src/lib.rt:203:1
 returns-2 : tie.Need-returns-2
 returns-2 c = rw (c .before .p2 .given .1)
 
 pub refuse-spec : {M : Type 1} → statement M
-refuse-spec = tie.close (tie.spec enum-known-p enum-known-p-2 returns returns-2)
+refuse-spec = tie.close (tie.spec (λ c. search needs) (λ c. search needs) returns returns-2)

@@ -3,34 +3,15 @@ use Rattle.lexer.proofs.Laws.{g-then, g-word-yes, g-word-no, g-done}
 use borrow.Author.Needs.{needs}
 use Rattle.lexer.proofs.skip_keyword.Statement.{statement}
 use Rattle.lexer.proofs.skip_keyword.Tie as tie
-use Rattle.lexer.proofs.skip_keyword.Reads as reads
-use Rattle.lexer.proofs.skip_keyword.Lts as lts
-use Rattle.lexer.proofs.eat_ws.Reads as eat-ws-reads
-use Rattle.lexer.proofs.pass.Reads as pass-reads
-use Rattle.lexer.proofs.word.Reads as word-reads
 
--- src/lib.rt:251:9
-eat-ws-requires : tie.Need-eat-ws-requires
-eat-ws-requires c κs = search needs
-
--- src/lib.rt:252:8
-word-requires : tie.Need-word-requires
-word-requires c κs = search needs
-
--- src/lib.rt:253:9
-pass-requires : tie.Need-pass-requires
-pass-requires c κs = search needs
-
--- src/lib.rt:253:9
 returns : tie.Need-returns
 unfolding skipKeyword
 returns c = g-then _ (c .before .before .before .eat-ws .ensures) (g-word-yes _ _ (c .before .before .word .ensures) (c .before .if1 .taken) (c .pass .ensures) g-done)
 
--- src/lib.rt:247:1
 returns-2 : tie.Need-returns-2
 unfolding skipKeyword
 returns-2 c = g-then _ (c .before .before .eat-ws .ensures) (g-word-no _ _ (c .before .word .ensures) (c .if1 .left) g-done)
 
 pub skip-keyword-spec : {M : Type 1} → statement M
 skip-keyword-spec =
-    tie.close (tie.spec eat-ws-requires word-requires pass-requires returns returns-2)
+    tie.close (tie.spec (λ c κs. search needs) (λ c κs. search needs) (λ c κs. search needs) returns returns-2)

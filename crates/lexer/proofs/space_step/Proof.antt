@@ -4,39 +4,27 @@ use Rattle.grammar.specs.Lexer.{spaceStep}
 use borrow.Author.Needs.{needs}
 use Rattle.lexer.proofs.space_step.Statement.{statement}
 use Rattle.lexer.proofs.space_step.Tie as tie
-use Rattle.lexer.proofs.space_step.Reads as reads
-use Rattle.lexer.proofs.space_step.Lts as lts
-use Rattle.lexer.proofs.class.Reads as class-reads
 
--- src/lib.rt:75:13
 returns : tie.Need-returns
 unfolding spaceStep
 returns c = rw (eq-eqb _ _ (c .before .if1 .taken), eq-eqb _ _ (c .if2 .taken))
 
--- src/lib.rt:77:12
-class-requires : tie.Need-class-requires
-class-requires c κs = search needs
-
--- src/lib.rt:78:13
 returns-2 : tie.Need-returns-2
 unfolding spaceStep isSpace
 returns-2 c = rw (eq-eqb _ _ (c .before .before .before .if1 .taken), ne-eqb _ _ (c .before .before .if2 .left), ← c .before .class .ensures, eq-eqb _ _ (c .if3 .taken))
 
--- src/lib.rt:80:9
 returns-3 : tie.Need-returns-3
 unfolding spaceStep isSpace
 returns-3 c = rw (eq-eqb _ _ (c .before .before .before .if1 .taken), ne-eqb _ _ (c .before .before .if2 .left), ← c .before .class .ensures, ne-eqb _ _ (c .if3 .left))
 
--- src/lib.rt:83:9
 returns-4 : tie.Need-returns-4
 unfolding spaceStep
 returns-4 c = rw (ne-eqb _ _ (c .before .if1 .left), eq-eqb _ _ (c .if4 .taken))
 
--- src/lib.rt:69:1
 returns-5 : tie.Need-returns-5
 unfolding spaceStep
 returns-5 c = rw (ne-eqb _ _ (c .before .if1 .left), ne-eqb _ _ (c .if4 .left))
 
 pub space-step-spec : {M : Type 1} → statement M
 space-step-spec =
-    tie.close (tie.spec returns class-requires returns-2 returns-3 returns-4 returns-5)
+    tie.close (tie.spec returns (λ c κs. search needs) returns-2 returns-3 returns-4 returns-5)

@@ -7,8 +7,6 @@ use Rattle.lexer.proofs.Ranks.{same-long, same-other, same-more, same-e
 use borrow.Author.Needs.{needs}
 use Rattle.lexer.proofs.keywords.same.Statement.{statement}
 use Rattle.lexer.proofs.keywords.same.Tie as tie
-use Rattle.lexer.proofs.keywords.same.Reads as reads
-use Rattle.lexer.proofs.keywords.same.Lts as lts
 
 abbrev Inv-loop : tie.InvT-loop
 Inv-loop a b i₀ i = sameWord a b ≡ sameWord (drop i a) (drop i b)
@@ -16,39 +14,15 @@ Inv-loop a b i₀ i = sameWord a b ≡ sameWord (drop i a) (drop i b)
 abbrev μ-loop : tie.MeasureT-loop
 μ-loop a b i₀ i = length a - i
 
--- src/keywords.rt:18:9
 returns : tie.Need-returns Inv-loop μ-loop
 returns c = sym (same-long _ _ (c .if1 .taken))
 
--- src/keywords.rt:21:5
-loop-holds : tie.Need-loop-holds Inv-loop μ-loop
-loop-holds c = refl
-
--- src/keywords.rt:22:12
-shared-slice-read-if2 : tie.Need-shared-slice-read-if2 Inv-loop μ-loop
-shared-slice-read-if2 c = search needs
-
--- src/keywords.rt:22:20
-shared-slice-read-if2-2 : tie.Need-shared-slice-read-if2-2 Inv-loop μ-loop
-shared-slice-read-if2-2 c = search needs
-
--- src/keywords.rt:23:13
 returns-2 : tie.Need-returns-2 Inv-loop μ-loop
 returns-2 c = sym (c .before .before .before .before .loop .inv ∙ same-other _ _ _ (c .before .before .before .loop-test .taken) (search needs) (c .if2 .taken))
 
--- src/keywords.rt:25:9
-add-i : tie.Need-add-i Inv-loop μ-loop
-add-i c = search needs
-
--- src/keywords.rt:21:5
-loop-less : tie.Need-loop-less Inv-loop μ-loop
-loop-less c = search needs
-
--- src/keywords.rt:21:5
 loop-again : tie.Need-loop-again Inv-loop μ-loop
 loop-again c = c .before .before .before .before .loop .inv ∙ same-more _ _ _ (c .before .before .before .loop-test .taken) (search needs) (c .if2 .left)
 
--- src/keywords.rt:14:1
 returns-3 : tie.Need-returns-3 Inv-loop μ-loop
 returns-3 c = sym (c .before .loop .inv ∙ same-end _ _ _ (c .loop-test .left) (search needs))
 
@@ -59,11 +33,11 @@ same-spec =
     Inv-loop
     μ-loop
     returns
-    loop-holds
-    shared-slice-read-if2
-    shared-slice-read-if2-2
+    (λ c. refl)
+    (λ c. search needs)
+    (λ c. search needs)
     returns-2
-    add-i
-    loop-less
+    (λ c. search needs)
+    (λ c. search needs)
     loop-again
     returns-3)

@@ -7,10 +7,6 @@ use Rattle.lexer.proofs.Ranks.{g-rank-yes, g-rank-no, cut-length}
 use borrow.Author.Needs.{needs}
 use Rattle.lexer.proofs.keywords.skip_all.Statement.{statement}
 use Rattle.lexer.proofs.keywords.skip_all.Tie as tie
-use Rattle.lexer.proofs.keywords.skip_all.Reads as reads
-use Rattle.lexer.proofs.keywords.skip_all.Lts as lts
-use Rattle.lexer.proofs.eat_ws.Reads as eat-ws-reads
-use Rattle.lexer.proofs.keywords.match_rank.Reads as match-rank-reads
 
 abbrev Inv-loop : tie.InvT-loop
 Inv-loop classes text lens bytes q₀ left₀ q left = Comes (skipAll turns (cut lens bytes)) (skipAll left (cut lens bytes)) text q₀ q
@@ -18,37 +14,17 @@ Inv-loop classes text lens bytes q₀ left₀ q left = Comes (skipAll turns (cut
 abbrev μ-loop : tie.MeasureT-loop
 μ-loop classes text lens bytes q₀ left₀ q left = left
 
--- src/keywords.rt:124:5
 loop-holds : tie.Need-loop-holds Inv-loop μ-loop
 loop-holds c = g-stay
 
--- src/keywords.rt:125:13
-eat-ws-requires : tie.Need-eat-ws-requires Inv-loop μ-loop
-eat-ws-requires c κs = search needs
-
--- src/keywords.rt:126:13
-match-rank-requires : tie.Need-match-rank-requires Inv-loop μ-loop
-match-rank-requires c κs = search needs
-
--- src/keywords.rt:130:13
 returns : tie.Need-returns Inv-loop μ-loop
 unfolding skipAll
 returns c = g-on (c .before .before .before .before .loop .inv) (g-more (λ u. skipAll u (cut (c .before .before .before .before .before .before .before .before .args .lens .now) (c .before .before .before .before .before .before .before .before .args .bytes .now))) (c .before .before .before .before .loop .left) (c .before .before .before .loop-test .taken) (g-then _ (c .before .before .eat-ws .ensures) (g-rank-no _ _ _ (c .before .match-rank .ensures) (omega (arith, cut-length (c .before .before .before .before .before .before .before .before .args .lens .now) (c .before .before .before .before .before .before .before .before .args .bytes .now))) g-done)))
 
--- src/keywords.rt:132:9
-sub-left : tie.Need-sub-left Inv-loop μ-loop
-sub-left c = search needs
-
--- src/keywords.rt:124:5
-loop-less : tie.Need-loop-less Inv-loop μ-loop
-loop-less c = search needs
-
--- src/keywords.rt:124:5
 loop-again : tie.Need-loop-again Inv-loop μ-loop
 unfolding skipAll
 loop-again c = g-on (c .before .before .before .before .loop .inv) (g-more (λ u. skipAll u (cut (c .before .before .before .before .before .before .before .before .args .lens .now) (c .before .before .before .before .before .before .before .before .args .bytes .now))) (c .before .before .before .before .loop .left) (c .before .before .before .loop-test .taken) (g-then _ (c .before .before .eat-ws .ensures) (g-rank-yes _ _ _ (c .before .match-rank .ensures) (omega (arith, cut-length (c .before .before .before .before .before .before .before .before .args .lens .now) (c .before .before .before .before .before .before .before .before .args .bytes .now))) g-stay)))
 
--- src/keywords.rt:118:1
 returns-2 : tie.Need-returns-2 Inv-loop μ-loop
 unfolding skipAll
 returns-2 c = g-on (c .before .loop .inv) (g-no-more (λ u. skipAll u (cut (c .before .before .before .before .before .args .lens .now) (c .before .before .before .before .before .args .bytes .now))) (c .before .loop .left) (c .loop-test .left) g-done)
@@ -60,10 +36,10 @@ skip-all-spec =
     Inv-loop
     μ-loop
     loop-holds
-    eat-ws-requires
-    match-rank-requires
+    (λ c κs. search needs)
+    (λ c κs. search needs)
     returns
-    sub-left
-    loop-less
+    (λ c. search needs)
+    (λ c. search needs)
     loop-again
     returns-2)

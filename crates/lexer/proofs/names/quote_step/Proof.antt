@@ -4,59 +4,39 @@ use Rattle.grammar.specs.Lexer.{quoteStep}
 use borrow.Author.Needs.{needs}
 use Rattle.lexer.proofs.names.quote_step.Statement.{statement}
 use Rattle.lexer.proofs.names.quote_step.Tie as tie
-use Rattle.lexer.proofs.names.quote_step.Reads as reads
-use Rattle.lexer.proofs.names.quote_step.Lts as lts
-use Rattle.lexer.proofs.class.Reads as class-reads
 
--- src/names.rt:48:13
 returns : tie.Need-returns
 unfolding quoteStep
 returns c = rw (eq-eqb _ _ (c .before .if1 .taken), eq-eqb _ _ (c .if2 .taken))
 
--- src/names.rt:51:13
 returns-2 : tie.Need-returns-2
 unfolding quoteStep
 returns-2 c = rw (eq-eqb _ _ (c .before .before .if1 .taken), ne-eqb _ _ (c .before .if2 .left), eq-eqb _ _ (c .if3 .taken))
 
--- src/names.rt:54:13
 returns-3 : tie.Need-returns-3
 unfolding quoteStep
 returns-3 c = rw (eq-eqb _ _ (c .before .before .before .if1 .taken), ne-eqb _ _ (c .before .before .if2 .left), ne-eqb _ _ (c .before .if3 .left), eq-eqb _ _ (c .if4 .taken))
 
--- src/names.rt:56:9
 returns-4 : tie.Need-returns-4
 unfolding quoteStep
 returns-4 c = rw (eq-eqb _ _ (c .before .before .before .if1 .taken), ne-eqb _ _ (c .before .before .if2 .left), ne-eqb _ _ (c .before .if3 .left), ne-eqb _ _ (c .if4 .left))
 
--- src/names.rt:60:13
 returns-5 : tie.Need-returns-5
 unfolding quoteStep
 returns-5 c = rw (ne-eqb _ _ (c .before .before .if1 .left), eq-eqb _ _ (c .before .if5 .taken), eq-eqb _ _ (c .if6 .taken))
 
--- src/names.rt:62:12
-class-requires : tie.Need-class-requires
-class-requires c κs = search needs
-
--- src/names.rt:63:13
 returns-6 : tie.Need-returns-6
 unfolding quoteStep isHex
 returns-6 c = rw (ne-eqb _ _ (c .before .before .before .before .if1 .left), eq-eqb _ _ (c .before .before .before .if5 .taken), ne-eqb _ _ (c .before .before .if6 .left), ← c .before .class .ensures, lt-ltb _ _ (c .if7 .taken))
 
--- src/names.rt:65:9
 returns-7 : tie.Need-returns-7
 unfolding quoteStep isHex
 returns-7 c = rw (ne-eqb _ _ (c .before .before .before .before .if1 .left), eq-eqb _ _ (c .before .before .before .if5 .taken), ne-eqb _ _ (c .before .before .if6 .left), ← c .before .class .ensures, le-ltb _ _ (c .if7 .left))
 
--- src/names.rt:67:8
-class-requires-2 : tie.Need-class-requires-2
-class-requires-2 c κs = search needs
-
--- src/names.rt:68:9
 returns-8 : tie.Need-returns-8
 unfolding quoteStep isHex
 returns-8 c = rw (ne-eqb _ _ (c .before .before .before .if1 .left), ne-eqb _ _ (c .before .before .if5 .left), ← c .before .class2 .ensures, lt-ltb _ _ (c .if8 .taken))
 
--- src/names.rt:42:1
 returns-9 : tie.Need-returns-9
 unfolding quoteStep isHex
 returns-9 c = rw (ne-eqb _ _ (c .before .before .before .if1 .left), ne-eqb _ _ (c .before .before .if5 .left), ← c .before .class2 .ensures, le-ltb _ _ (c .if8 .left))
@@ -70,9 +50,9 @@ quote-step-spec =
     returns-3
     returns-4
     returns-5
-    class-requires
+    (λ c κs. search needs)
     returns-6
     returns-7
-    class-requires-2
+    (λ c κs. search needs)
     returns-8
     returns-9)

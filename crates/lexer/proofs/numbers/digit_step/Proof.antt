@@ -4,33 +4,22 @@ use Rattle.grammar.specs.Numbers.{digitStep}
 use borrow.Author.Needs.{needs}
 use Rattle.lexer.proofs.numbers.digit_step.Statement.{statement}
 use Rattle.lexer.proofs.numbers.digit_step.Tie as tie
-use Rattle.lexer.proofs.numbers.digit_step.Reads as reads
-use Rattle.lexer.proofs.numbers.digit_step.Lts as lts
-use Rattle.lexer.proofs.class.Reads as class-reads
 
--- src/numbers.rt:21:8
-class-requires : tie.Need-class-requires
-class-requires c κs = search needs
-
--- src/numbers.rt:22:9
 returns : tie.Need-returns
 unfolding digitStep isDigit
 returns c = rw (← c .before .class .ensures, lt-ltb _ _ (c .if1 .taken))
 
--- src/numbers.rt:26:13
 returns-2 : tie.Need-returns-2
 unfolding digitStep isDigit
 returns-2 c = rw (← c .before .before .before .class .ensures, le-ltb _ _ (c .before .before .if1 .left), eq-eqb _ _ (c .before .if2 .taken), eq-eqb _ _ (c .if3 .taken))
 
--- src/numbers.rt:28:9
 returns-3 : tie.Need-returns-3
 unfolding digitStep isDigit
 returns-3 c = rw (← c .before .before .before .class .ensures, le-ltb _ _ (c .before .before .if1 .left), eq-eqb _ _ (c .before .if2 .taken), ne-eqb _ _ (c .if3 .left))
 
--- src/numbers.rt:17:1
 returns-4 : tie.Need-returns-4
 unfolding digitStep isDigit
 returns-4 c = rw (← c .before .before .class .ensures, le-ltb _ _ (c .before .if1 .left), ne-eqb _ _ (c .if2 .left))
 
 pub digit-step-spec : {M : Type 1} → statement M
-digit-step-spec = tie.close (tie.spec class-requires returns returns-2 returns-3 returns-4)
+digit-step-spec = tie.close (tie.spec (λ c κs. search needs) returns returns-2 returns-3 returns-4)

@@ -5,51 +5,22 @@ use Rattle.lexer.proofs.Count.{exact-of, over-of, no-digits, too-low, t
 use borrow.Author.Needs.{needs}
 use Rattle.lexer.proofs.numbers.parse_int.Statement.{statement}
 use Rattle.lexer.proofs.numbers.parse_int.Tie as tie
-use Rattle.lexer.proofs.numbers.parse_int.Reads as reads
-use Rattle.lexer.proofs.numbers.parse_int.Lts as lts
-use Rattle.lexer.proofs.numbers.digits_at.Reads as digits-at-reads
 
--- src/numbers.rt:94:20
-enum-known-p : tie.Need-enum-known-p
-enum-known-p c = search needs
-
--- src/numbers.rt:96:17
-digits-at-requires : tie.Need-digits-at-requires
-digits-at-requires c κs = search needs
-
--- src/numbers.rt:99:17
 returns : tie.Need-returns
 returns c = rw (c .before .before .before .p .given .1) (gone _ _ _ (λ i. no-digits _ _ _ _ _ (c .before .digits-at .ensures .behind) (c .if1 .taken)))
 
--- src/numbers.rt:103:28
-enum-known-val : tie.Need-enum-known-val
-enum-known-val c = search needs
-
--- src/numbers.rt:105:25
 returns-2 : tie.Need-returns-2
 returns-2 c = let v = exact-of _ _ (sym (c .before .before .val .given .1) ∙ c .before .before .before .before .before .digits-at .ensures .worth) in rw (c .before .before .before .before .before .before .before .p .given .1) (gone _ _ _ (λ i. too-low _ _ _ _ _ (c .before .before .before .before .before .digits-at .ensures .behind) (c .before .before .before .before .if1 .left) (omega arith)))
 
--- src/numbers.rt:108:25
 returns-3 : tie.Need-returns-3
 returns-3 c = let v = exact-of _ _ (sym (c .before .before .before .val .given .1) ∙ c .before .before .before .before .before .before .digits-at .ensures .worth) in rw (c .before .before .before .before .before .before .before .before .p .given .1) (gone _ _ _ (λ i. too-high _ _ _ _ _ (c .before .before .before .before .before .before .digits-at .ensures .behind) (c .before .before .before .before .before .if1 .left) (omega arith) (omega arith)))
 
--- src/numbers.rt:112:39
-enum-told : tie.Need-enum-told
-enum-told c = search needs
-
--- src/numbers.rt:115:25
-enum-known-p-2 : tie.Need-enum-known-p-2
-enum-known-p-2 c = search needs
-
--- src/numbers.rt:89:1
 returns-4 : tie.Need-returns-4
 returns-4 c = let v = exact-of _ _ (sym (c .before .before .before .val .given .1) ∙ c .before .before .before .before .before .before .digits-at .ensures .worth) in rw (c .before .before .before .before .before .before .before .before .p .given .1) (given _ _ (λ i. fits _ _ _ _ _ (c .before .before .before .before .before .before .digits-at .ensures .behind) (c .before .before .before .before .before .if1 .left) _ v (c .before .if2 .left) (c .if3 .left)))
 
--- src/numbers.rt:89:1
 returns-5 : tie.Need-returns-5
 returns-5 c = let v = over-of _ (sym (c .enum-told .given .1) ∙ c .before .before .before .digits-at .ensures .worth) in rw (c .before .before .before .before .before .p .given .1) (gone _ _ _ (λ i. too-far _ _ _ _ _ (c .before .before .before .digits-at .ensures .behind) (c .before .before .if1 .left) v (search needs)))
 
--- src/numbers.rt:89:1
 returns-6 : tie.Need-returns-6
 returns-6 c = rw (c .before .p2 .given .1) (kept _ _)
 
@@ -57,14 +28,14 @@ pub parse-int-spec : {M : Type 1} → statement M
 parse-int-spec =
     tie.close
     (tie.spec
-    enum-known-p
-    digits-at-requires
+    (λ c. search needs)
+    (λ c κs. search needs)
     returns
-    enum-known-val
+    (λ c. search needs)
     returns-2
     returns-3
-    enum-told
-    enum-known-p-2
+    (λ c. search needs)
+    (λ c. search needs)
     returns-4
     returns-5
     returns-6)

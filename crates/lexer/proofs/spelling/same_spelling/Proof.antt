@@ -8,9 +8,6 @@ use Rattle.lexer.proofs.Letters.{both-more, both-other, one-more, other
 use borrow.Author.Needs.{needs}
 use Rattle.lexer.proofs.spelling.same_spelling.Statement.{statement}
 use Rattle.lexer.proofs.spelling.same_spelling.Tie as tie
-use Rattle.lexer.proofs.spelling.same_spelling.Reads as reads
-use Rattle.lexer.proofs.spelling.same_spelling.Lts as lts
-use Rattle.lexer.proofs.spelling.next_letter.Reads as next-letter-reads
 
 abbrev Inv-loop : tie.InvT-loop
 Inv-loop classes a qa b qb i₀ j₀ i j = sameWord (spelledOf qa a) (spelledOf qb b) ≡ sameWord (spelledOf qa (drop i a)) (spelledOf qb (drop j b))
@@ -18,51 +15,27 @@ Inv-loop classes a qa b qb i₀ j₀ i j = sameWord (spelledOf qa a) (spelledOf 
 abbrev μ-loop : tie.MeasureT-loop
 μ-loop classes a qa b qb i₀ j₀ i j = length a - i
 
--- src/spelling.rt:95:5
-loop-holds : tie.Need-loop-holds Inv-loop μ-loop
-loop-holds c = refl
-
--- src/spelling.rt:96:13
-next-letter-requires : tie.Need-next-letter-requires Inv-loop μ-loop
-next-letter-requires c κs = search needs
-
--- src/spelling.rt:97:13
-next-letter-requires-2 : tie.Need-next-letter-requires-2 Inv-loop μ-loop
-next-letter-requires-2 c κs = search needs
-
--- src/spelling.rt:95:5
 loop-less : tie.Need-loop-less Inv-loop μ-loop
 loop-less c = omega (arith, c .before .before .before .before .before .before .next-letter .ensures .on (c .before .before .before .before .if1 .taken), c .before .before .before .before .before .before .next-letter .ensures .within (c .before .before .before .before .if1 .taken))
 
--- src/spelling.rt:95:5
 loop-again : tie.Need-loop-again Inv-loop μ-loop
 loop-again c = c .before .before .before .before .before .before .before .before .loop .inv ∙ both-more _ _ _ _ _ _ (c .before .before .before .before .before .before .next-letter .ensures .some (c .before .before .before .before .if1 .taken)) (c .before .before .before .before .before .next-letter2 .ensures .some (c .before .before .before .if2 .taken)) (c .if3 .taken)
 
--- src/spelling.rt:106:21
 returns : tie.Need-returns Inv-loop μ-loop
 returns c = sym (c .before .before .before .before .before .before .before .before .loop .inv ∙ both-other _ _ _ _ _ _ (c .before .before .before .before .before .before .next-letter .ensures .some (c .before .before .before .before .if1 .taken)) (c .before .before .before .before .before .next-letter2 .ensures .some (c .before .before .before .if2 .taken)) (c .if3 .left))
 
--- src/spelling.rt:109:17
 returns-2 : tie.Need-returns-2 Inv-loop μ-loop
 returns-2 c = sym (c .before .before .before .before .before .loop .inv ∙ one-more _ _ _ _ (c .before .before .before .next-letter .ensures .some (c .before .if1 .taken)) (c .before .before .next-letter2 .ensures .none (c .if2 .left)))
 
--- src/spelling.rt:113:17
 returns-3 : tie.Need-returns-3 Inv-loop μ-loop
 returns-3 c = sym (c .before .before .before .before .before .loop .inv ∙ other-more _ _ _ _ (c .before .before .before .next-letter .ensures .none (c .before .if1 .left)) (c .before .before .next-letter2 .ensures .some (c .if4 .taken)))
 
--- src/spelling.rt:115:13
 returns-4 : tie.Need-returns-4 Inv-loop μ-loop
 returns-4 c = sym (c .before .before .before .before .before .loop .inv ∙ neither _ _ (c .before .before .before .next-letter .ensures .none (c .before .if1 .left)) (c .before .before .next-letter2 .ensures .none (c .if4 .left)))
 
--- src/spelling.rt:118:9
-next-letter-requires-3 : tie.Need-next-letter-requires-3 Inv-loop μ-loop
-next-letter-requires-3 c κs = search needs
-
--- src/spelling.rt:120:9
 returns-5 : tie.Need-returns-5 Inv-loop μ-loop
 returns-5 c = sym (c .before .before .before .loop .inv ∙ other-more _ _ _ _ (letter-out _ _ (c .before .before .before .before .before .before .args .qa) (c .before .before .loop-test .left)) (c .before .next-letter3 .ensures .some (c .if5 .taken)))
 
--- src/spelling.rt:89:1
 returns-6 : tie.Need-returns-6 Inv-loop μ-loop
 returns-6 c = sym (c .before .before .before .loop .inv ∙ neither _ _ (letter-out _ _ (c .before .before .before .before .before .before .args .qa) (c .before .before .loop-test .left)) (c .before .next-letter3 .ensures .none (c .if5 .left)))
 
@@ -72,15 +45,15 @@ same-spelling-spec =
     (tie.spec
     Inv-loop
     μ-loop
-    loop-holds
-    next-letter-requires
-    next-letter-requires-2
+    (λ c. refl)
+    (λ c κs. search needs)
+    (λ c κs. search needs)
     loop-less
     loop-again
     returns
     returns-2
     returns-3
     returns-4
-    next-letter-requires-3
+    (λ c κs. search needs)
     returns-5
     returns-6)

@@ -2,56 +2,23 @@ use mathlib.Core.Path.{refl}
 use borrow.Author.Needs.{needs}
 use Rattle.lexer.proofs.writer.replace.Statement.{statement}
 use Rattle.lexer.proofs.writer.replace.Tie as tie
-use Rattle.lexer.proofs.writer.replace.Reads as reads
-use Rattle.lexer.proofs.writer.replace.Lts as lts
-use Rattle.lexer.proofs.writer.put.Reads as put-reads
 
--- src/writer.rt:110:20
-enum-known-p0 : tie.Need-enum-known-p0
-enum-known-p0 c = search needs
-
--- src/writer.rt:111:24
-enum-known-p : tie.Need-enum-known-p
-enum-known-p c = search needs
-
--- src/writer.rt:113:21
-put-requires : tie.Need-put-requires
-put-requires c κs = search needs
-
--- src/writer.rt:116:29
-enum-known-p-2 : tie.Need-enum-known-p-2
-enum-known-p-2 c = search needs
-
--- src/writer.rt:118:25
-enum-known-p0-2 : tie.Need-enum-known-p0-2
-enum-known-p0-2 c = search needs
-
--- src/writer.rt:106:1
-same-length : tie.Need-same-length
-same-length c = search needs
-
--- src/writer.rt:106:1
 returns : tie.Need-returns
 returns c = rw (c .before .before .before .before .before .before .before .before .p0 .given .1, c .before .before .before .before .before .p .given .1, c .before .before .put .ensures .0) (refl, c .before .before .put .ensures .1)
 
--- src/writer.rt:106:1
 returns-2 : tie.Need-returns-2
 returns-2 c = rw (c .before .before .before .before .p0 .given .1, c .before .p2 .given .1) (refl, refl)
-
--- src/writer.rt:106:1
-returns-3 : tie.Need-returns-3
-returns-3 c = search needs
 
 pub replace-spec : {M : Type 1} → statement M
 replace-spec =
     tie.close
     (tie.spec
-    enum-known-p0
-    enum-known-p
-    put-requires
-    enum-known-p-2
-    enum-known-p0-2
-    same-length
+    (λ c. search needs)
+    (λ c. search needs)
+    (λ c κs. search needs)
+    (λ c. search needs)
+    (λ c. search needs)
+    (λ c. search needs)
     returns
     returns-2
-    returns-3)
+    (λ c. search needs))

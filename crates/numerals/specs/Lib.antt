@@ -1,0 +1,4 @@
+pub mod Tests
+pub mod Scans
+pub mod Reads
+pub mod Constants

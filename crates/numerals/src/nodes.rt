@@ -1,0 +1,72 @@
+// A literal as its node: an integer's two words, a float's bits.
+use crate::reads::parse_f0x;
+use crate::reads::parse_hex_float;
+use crate::reads::parse_numeral;
+use lexer::Parsed;
+use lexer::close;
+use lexer::push;
+use literals::literal::Literal;
+ghost use mathlib.Core.Path.{_≡_};
+ghost use mathlib.Core.List.{List, [], _∷_};
+ghost use Prim.Native.Nat.{ℕ};
+ghost use Rattle.program.specs.Prog.{ret};
+ghost use Rattle.records.specs.Words.{node};
+ghost use Rattle.grammar.specs.Kinds.{kIntConst};
+ghost use Rattle.grammar.specs.Values.{floatNode, numeral};
+ghost use Rattle.lexer.specs.Table.{Classes};
+ghost use Rattle.lexer.specs.Reads.{Leads, Reads, made, same};
+ghost use Rattle.numerals.specs.Constants.{hexValue, f0xValue};
+
+// A float's node.
+pub fn float_node(words: &mut [u64], p: Parsed, bits: u64) -> Parsed
+    ensures { λ r. ⌜ ((text : List ℕ) → Leads (floatNode bits) 2 [] (made same text p) text p p (now (words .entry)) r (now (words .exit))) ⌝ }
+{
+    let p1 = push(words, p, 0);
+    let p2 = push(words, p1, bits);
+    close(words, p, p2, 19, 0, 0)
+}
+
+// An integer's node.
+pub fn int_node(words: &mut [u64], p: Parsed, hi: u64, lo: u64) -> Parsed
+    ensures { λ r. ⌜ ((text : List ℕ) → Leads (ret (node kIntConst 0 0 (hi ∷ lo ∷ []))) 3 [] (made same text p) text p p (now (words .entry)) r (now (words .exit))) ⌝ }
+{
+    let p1 = push(words, p, 0);
+    let p2 = push(words, p1, hi);
+    let p3 = push(words, p2, lo);
+    close(words, p, p3, 18, 0, 0)
+}
+
+// A numeral behind its sign.
+pub fn numeral(classes: &[u8; 256], text: &[u8], words: &mut [u64], p: Parsed, neg: bool) -> Parsed
+    requires { ⌜ Classes (now classes) ⌝ }
+    ensures { λ r. ⌜ Reads (numeral neg) (now (text .entry)) p (now (words .entry)) r (now (words .exit)) ⌝ }
+{
+    let x = parse_numeral(classes, text, p, neg);
+    let q = x.p;
+    let lit = x.lit;
+    match lit {
+        Literal::Int(h, l) => int_node(words, q, h, l),
+        Literal::Float(b) => float_node(words, q, b),
+        Literal::Refused(e) => q,
+    }
+}
+
+// A float's bits behind `0x`.
+pub fn hex_value(classes: &[u8; 256], text: &[u8], words: &mut [u64], p: Parsed) -> Parsed
+    requires { ⌜ Classes (now classes) ⌝ }
+    ensures { λ r. ⌜ Reads hexValue (now (text .entry)) p (now (words .entry)) r (now (words .exit)) ⌝ }
+{
+    let x = parse_hex_float(classes, text, p);
+    let q = x.p;
+    float_node(words, q, x.v)
+}
+
+// A float's bits behind `f0x`.
+pub fn f0x_value(classes: &[u8; 256], text: &[u8], words: &mut [u64], p: Parsed) -> Parsed
+    requires { ⌜ Classes (now classes) ⌝ }
+    ensures { λ r. ⌜ Reads f0xValue (now (text .entry)) p (now (words .entry)) r (now (words .exit)) ⌝ }
+{
+    let x = parse_f0x(classes, text, p);
+    let q = x.p;
+    float_node(words, q, x.v)
+}

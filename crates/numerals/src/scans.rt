@@ -1,0 +1,103 @@
+// Digits, folded as they are scanned. 01: "A number begins with a digit; later underscores are passed over."
+use crate::Folded;
+use crate::HexFolded;
+use crate::Part;
+use lexer::Cursor;
+use lexer::Parsed;
+use lexer::class;
+use literals::hex::no_hex;
+use literals::hex::push_hex;
+use literals::numeral::Fold;
+use literals::numeral::part_digit;
+use literals::numeral::power_digit;
+use literals::numeral::whole_digit;
+ghost use mathlib.Core.Path.{_≡_};
+ghost use Rattle.lexer.specs.Table.{Classes};
+ghost use Rattle.numerals.specs.Scans.{pushedIn, DigitsAt, HexAt};
+
+// A digit more.
+fn push_digit(part: Part, s: Fold, d: u8) -> Fold
+    ensures { λ r. ⌜ r ≡ pushedIn part s d ⌝ }
+{
+    match part {
+        Part::Whole => whole_digit(s, d),
+        Part::Behind => part_digit(s, d),
+        Part::Power => power_digit(s, d),
+    }
+}
+
+// The digits and underscores at the cursor, behind the state s0.
+pub fn digits(classes: &[u8; 256], text: &[u8], p: Parsed, s0: Fold, part: Part) -> Folded
+    requires { ⌜ Classes (now classes) ⌝ }
+    ensures { λ r. ⌜ DigitsAt part s0 (now (text .entry)) p (r .p) (r .s) ⌝ }
+{
+    match p {
+        Parsed::Ok(c) => {
+            let mut i = c.at;
+            let mut q: u8 = 0;
+            let mut s = s0;
+            while i < text.len() {
+                let b = text[i];
+                let d = class(classes, b);
+                if d < 10 {
+                    s = push_digit(part, s, d);
+                } else {
+                    if b != 95 {
+                        return Folded {
+                            p: Parsed::Ok(Cursor { at: i, w: c.w }),
+                            s,
+                        };
+                    }
+                    if q == 0 {
+                        return Folded {
+                            p: Parsed::Ok(Cursor { at: i, w: c.w }),
+                            s,
+                        };
+                    }
+                }
+                q = 1;
+                i += 1;
+            }
+            Folded {
+                p: Parsed::Ok(Cursor { at: i, w: c.w }),
+                s,
+            }
+        }
+        Parsed::Refused(e, q) => Folded {
+            p: Parsed::Refused(e, q),
+            s: s0,
+        },
+    }
+}
+
+// The hex digits at the cursor.
+pub fn hex_digits(classes: &[u8; 256], text: &[u8], p: Parsed) -> HexFolded
+    requires { ⌜ Classes (now classes) ⌝ }
+    ensures { λ r. ⌜ HexAt (now (text .entry)) p (r .p) (r .h) ⌝ }
+{
+    let mut h = no_hex();
+    match p {
+        Parsed::Ok(c) => {
+            let mut i = c.at;
+            while i < text.len() {
+                let d = class(classes, text[i]);
+                if 15 < d {
+                    return HexFolded {
+                        p: Parsed::Ok(Cursor { at: i, w: c.w }),
+                        h,
+                    };
+                }
+                h = push_hex(h, d);
+                i += 1;
+            }
+            HexFolded {
+                p: Parsed::Ok(Cursor { at: i, w: c.w }),
+                h,
+            }
+        }
+        Parsed::Refused(e, q) => HexFolded {
+            p: Parsed::Refused(e, q),
+            h,
+        },
+    }
+}

@@ -1,0 +1,180 @@
+-- The laws of the values' programs.
+-- Assumes nothing.
+use mathlib.Core.Path.{_≡_, refl, sym, ap, _∙_, subst}
+use mathlib.Core.List.{List, [], _∷_, _++_}
+use mathlib.Core.Bool.{Bool, true, false, _&&_}
+use Prim.Native.Nat.{ℕ, zero, suc, _+_, _-_, _*_, _≤_, _<_}
+use native.Mathlib.Omega.{arith}
+use lib.ListN.{length, drop}
+use lib.Dec.{ltb, leb, eqb}
+use Rattle.program.specs.Bytes.{bytes}
+use Rattle.program.specs.Class.{classOf, isWord, isDigit}
+use Rattle.program.specs.Prog.{Prog, ret, fail, look, eat, here, lead, scan, Res, ok, closed, no-at, run, _>>=_, byteAt, leadWord, next, run-bind}
+use Rattle.grammar.specs.Lexer.{eatWs, refuse, place, isByte, byteIf, sameWord, startsWith, eatN, wordIf, wordAtIf, rankIf, rank, tokenIf, expectToken, skipKeyword}
+use Rattle.grammar.specs.Types.{Listed, listed, TypeOut, whole, wholeOf, nameNode, parseType}
+use Rattle.grammar.specs.Values.{convOps, binOps, prefixIf, digitIf, numericOr, cstring, leafValues, pairWith, overValue, overType, pairs, pairList, aggregate, packedConst, gepIndices, constExprs, valueWith, parseValue, parseTypedVal}
+use Rattle.lexer.specs.Step.{looksP, wordP, placeP, passed, refused}
+use Rattle.lexer.specs.Reads.{Budget, At, Ends, at, out, Leads, Goal, made, reach, same, Gives}
+use Rattle.lexer.specs.declared.Cursor.{Cursor}
+use Rattle.lexer.specs.declared.Parsed.{Parsed}
+use Rattle.lexer.specs.declared.Parsed.the-variants.{Ok, Refused}
+use Rattle.lexer.proofs.Laws.{true-false, some-word, run-eat, moved, done, stay, then, val, byte-yes, byte-no, token-yes, token-no, fail-is, call, place-at}
+use Rattle.types.specs.Reading.{typed, Types}
+use Rattle.types.proofs.TypeLaws.{Stuck, type-then, more, no-more, space-run, byte-run-no, word-run-no, rank-run-no, fail-run, stuck-out}
+use Rattle.values.specs.Leaf.{Tried, keyValues, wordValues}
+
+-- ---- at a parenthesis no value begins
+no-lead : (s : List ℕ) → byteAt s ≡ 40 → leadWord s ≡ []
+unfolding leadWord byteAt isWord classOf
+no-lead [] e = refl
+no-lead (x ∷ s) e = rw (leadWord, e)
+
+prefix-run-no : {A : Type 0} (k : ℕ) (ks : List ℕ) (f g : Prog A) (i : ℕ) (s : List ℕ) → byteAt s ≡ 40 → run (prefixIf (k ∷ ks) f g) i s ≡ run g i s
+unfolding run prefixIf startsWith
+prefix-run-no k ks f g i s e = ap (λ (w : List ℕ). run (elim (startsWith (k ∷ ks) w) [ true ↦ eatN (length (k ∷ ks)) f | false ↦ g ]) i s) (no-lead s e)
+
+at-run-no : {A : Type 0} (k : ℕ) (ks : List ℕ) (f g : Prog A) (i : ℕ) (s : List ℕ) → byteAt s ≡ 40 → run (wordAtIf (k ∷ ks) f g) i s ≡ run g i s
+unfolding run wordAtIf sameWord
+at-run-no k ks f g i s e = ap (λ (w : List ℕ). run (elim (sameWord w (k ∷ ks)) [ true ↦ f | false ↦ g ]) i s) (no-lead s e)
+
+digit-run-no : {A : Type 0} (f g : Prog A) (i : ℕ) (s : List ℕ) → byteAt s ≡ 40 → run (digitIf f g) i s ≡ run g i s
+unfolding run digitIf isDigit classOf
+digit-run-no f g i s e = ap (λ (b : ℕ). run (elim (isDigit b) [ true ↦ f | false ↦ g ]) i s) e
+
+numeric-run-no : (g : Prog (List ℕ)) (i : ℕ) (s : List ℕ) → byteAt s ≡ 40 → run (numericOr g) i s ≡ run g i s
+unfolding numericOr
+numeric-run-no g i s e = byte-run-no 43 _ _ i s (λ z. omega arith) e ∙ byte-run-no 45 _ _ i s (λ z. omega arith) e ∙ digit-run-no _ _ i s e
+
+words-run-no : (g : Prog (List ℕ)) (i : ℕ) (s : List ℕ) → byteAt s ≡ 40 → run (wordValues g) i s ≡ run g i s
+unfolding wordValues keyValues sameWord
+words-run-no g i s e =
+    word-run-no _ _ _ i s refl e ∙ word-run-no _ _ _ i s refl e ∙ word-run-no _ _ _ i s refl e ∙ word-run-no _ _ _ i s refl e ∙ word-run-no _ _ _ i s refl e ∙ word-run-no _ _ _ i s refl e ∙
+    at-run-no _ _ _ _ i s e ∙ prefix-run-no _ _ _ _ i s e
+
+leaf-run-no : (g : Prog (List ℕ)) (i : ℕ) (s : List ℕ) → byteAt s ≡ 40 → run (leafValues g) i s ≡ run g i s
+unfolding leafValues wordValues keyValues
+leaf-run-no g i s e = byte-run-no 37 _ _ i s (λ z. omega arith) e ∙ byte-run-no 64 _ _ i s (λ z. omega arith) e ∙ numeric-run-no _ i s e ∙ words-run-no g i s e
+
+exprs-run-no : (t : Prog TypeOut) (v : Prog (List ℕ)) (i : ℕ) (s : List ℕ) → byteAt s ≡ 40 → run (constExprs t v) i s ≡ no-at 6 i
+unfolding constExprs sameWord rank convOps binOps
+exprs-run-no t v i s e = word-run-no _ _ _ i s refl e ∙ rank-run-no convOps _ _ i s refl e ∙ rank-run-no binOps _ _ i s refl e ∙ fail-run 6 i s
+
+value-run-no : (d i : ℕ) (s : List ℕ) → byteAt s ≡ 40 → run (parseValue (suc d)) i s ≡ no-at 6 i
+unfolding parseValue valueWith place run _>>=_
+value-run-no d i s e =
+    space-run _ i s e ∙ leaf-run-no _ i s e ∙ byte-run-no 91 _ _ i s (λ z. omega arith) e ∙ byte-run-no 123 _ _ i s (λ z. omega arith) e ∙ byte-run-no 60 _ _ i s (λ z. omega arith) e ∙
+    exprs-run-no (parseType d) (parseValue d) i s e
+
+pub stuck-value : {B : Type 0} (d : ℕ) (h : List ℕ → List ℕ → Prog B) → Stuck 6 (λ t. parseValue (suc d) >>= h t)
+unfolding next
+stuck-value d h t i s e = run-bind (parseValue (suc d)) (h t) i s ∙ ap (next (h t) i s) (value-run-no d i s e)
+
+-- ---- a typed value
+pub pair-none : {d : ℕ} {text : List ℕ} {p q r : Parsed} {w : List ℕ} → d ≡ 0 → Gives eatWs tt text p q → r ≡ refused 16 q → Leads (parseTypedVal d) 0 [] (made same text p) text p p w r w
+unfolding parseTypedVal pairWith parseType whole eatWs refuse _>>=_
+pair-none {d} {text} {p} {q} {r} {w} e g h = rw e (val {f = eatWs} (λ _. refuse 16) g (fail-is _ h))
+
+pair-at : {text : List ℕ} {p q r : Parsed} {w w1 w2 : List ℕ} (d : ℕ) → Types (suc d) text p w q w1 → Leads (parseValue (suc d)) 0 [] (made same text q) text q q w1 r w2 → Leads (parseTypedVal (suc d)) 0 [] (made same text p) text p p w r w2
+unfolding parseTypedVal pairWith
+pair-at d t v = type-then 6 _ t (stuck-value d (λ t v. ret (t ++ v))) (λ t. then _ v (λ v. done))
+
+pub pair-some : {text : List ℕ} {p q r : Parsed} {w w1 w2 : List ℕ} (d : ℕ) → (d ≡ 0 → ⊥) → Types d text p w q w1 → Leads (parseValue d) 0 [] (made same text q) text q q w1 r w2 → Leads (parseTypedVal d) 0 [] (made same text p) text p p w r w2
+pair-some zero n t v = absurd (n refl)
+pair-some (suc d) n t v = pair-at d t v
+
+-- ---- typed values behind commas
+module _ (d : ℕ) {text : List ℕ} {p0 q q1 q2 : Parsed} {v v1 : List ℕ} (u end n : ℕ) (r : Leads (parseTypedVal d) 0 [] (made same text q) text q q v q1 v1) (ws : List ℕ) where
+  module _ (pos : 0 < u) (gw : Gives eatWs tt text q1 q2) where
+    turn : {E : Goal Listed} {q3 : Parsed} {v3 : List ℕ} → ((x : List ℕ) → Leads (byteIf 44 (pairs (u - 1) end (parseType d) (parseValue d) (n + 2) (ws ++ x)) (byteIf end (ret (listed (n + 2) 0 (ws ++ x))) (refuse 3))) 0 (ws ++ x) E text p0 q2 v1 q3 v3) → Leads (pairs u end (parseType d) (parseValue d) n ws) 0 ws E text p0 q v q3 v3
+    unfolding pairs parseTypedVal
+    turn {E} {q3} {v3} k = more (λ z. pairs z end (parseType d) (parseValue d) n ws) u pos (then _ r (λ x. val _ gw (k x)))
+
+    pub pairs-more : {z : Bool} {q3 : Parsed} (m : ℕ) → m ≡ n + 2 → z ≡ looksP text q2 44 → z ≡ true → q3 ≡ passed text 1 q2 → Leads (pairs u end (parseType d) (parseValue d) n ws) 0 ws (reach (pairs (u - 1) end (parseType d) (parseValue d) m) text p0) text p0 q v q3 v1
+    pairs-more {z} {q3} m e l y x = turn (λ t. byte-yes _ _ l y x (subst (λ (j : ℕ). Leads (pairs (u - 1) end (parseType d) (parseValue d) j (ws ++ t)) 3 (ws ++ t) (reach (pairs (u - 1) end (parseType d) (parseValue d) m) text p0) text p0 q3 v1 q3 v1) e (stay (pairs (u - 1) end (parseType d) (parseValue d) m))))
+
+    pub pairs-end : {z z2 : Bool} {q3 : Parsed} (m : ℕ) → m ≡ n + 2 → z ≡ looksP text q2 44 → z ≡ false → z2 ≡ looksP text q2 end → z2 ≡ true → q3 ≡ passed text 1 q2 → Leads (pairs u end (parseType d) (parseValue d) n ws) 0 ws (made (listed m 0) text p0) text p0 q v q3 v1
+    pairs-end {z} {z2} {q3} m e l y l2 y2 x = turn (λ t. byte-no _ _ l y (byte-yes _ _ l2 y2 x (subst (λ (j : ℕ). Leads (ret (listed j 0 (ws ++ t))) 3 (ws ++ t) (made (listed m 0) text p0) text p0 q3 v1 q3 v1) e done)))
+
+    pub pairs-bad : {E : Goal Listed} {z z2 : Bool} {q3 : Parsed} → z ≡ looksP text q2 44 → z ≡ false → z2 ≡ looksP text q2 end → z2 ≡ false → q3 ≡ refused 3 q2 → Leads (pairs u end (parseType d) (parseValue d) n ws) 0 ws E text p0 q v q3 v1
+    pairs-bad l y l2 y2 x = turn (λ t. byte-no _ _ l y (byte-no _ _ l2 y2 (fail-is _ x)))
+
+  pub pairs-out : {E : Goal Listed} → u ≤ 0 → q2 ≡ refused 19 q1 → Leads (pairs u end (parseType d) (parseValue d) n ws) 0 ws E text p0 q v q2 v1
+  unfolding pairs parseTypedVal overValue
+  pairs-out l x = no-more (λ z. pairs z end (parseType d) (parseValue d) n ws) u l (then _ r (λ t. fail-is _ x))
+
+-- ---- the indices of a constant getelementptr
+module _ (d : ℕ) {text : List ℕ} {p0 q q1 : Parsed} {v : List ℕ} (u n : ℕ) (gw : Gives eatWs tt text q q1) (ws : List ℕ) where
+  pub indices-end : {z z2 : Bool} {q2 : Parsed} → z ≡ looksP text q1 44 → z ≡ false → z2 ≡ looksP text q1 41 → z2 ≡ true → q2 ≡ passed text 1 q1 → Leads (gepIndices u (parseType d) (parseValue d) n ws) 0 ws (made (listed n 0) text p0) text p0 q v q2 v
+  unfolding gepIndices
+  indices-end {z} {z2} {q2} l y l2 y2 x = go u
+    where
+      go : (u : ℕ) → Leads (gepIndices u (parseType d) (parseValue d) n ws) 0 ws (made (listed n 0) text p0) text p0 q v q2 v
+      go zero = token-no _ _ gw l y (byte-yes _ _ l2 y2 x done)
+      go (suc u) = token-no _ _ gw l y (byte-yes _ _ l2 y2 x done)
+
+  pub indices-bad : {E : Goal Listed} {z z2 : Bool} {q2 : Parsed} → z ≡ looksP text q1 44 → z ≡ false → z2 ≡ looksP text q1 41 → z2 ≡ false → q2 ≡ refused 3 q1 → Leads (gepIndices u (parseType d) (parseValue d) n ws) 0 ws E text p0 q v q2 v
+  unfolding gepIndices
+  indices-bad {E} {z} {z2} {q2} l y l2 y2 x = go u
+    where
+      go : (u : ℕ) → Leads (gepIndices u (parseType d) (parseValue d) n ws) 0 ws E text p0 q v q2 v
+      go zero = token-no _ _ gw l y (byte-no _ _ l2 y2 (fail-is _ x))
+      go (suc u) = token-no _ _ gw l y (byte-no _ _ l2 y2 (fail-is _ x))
+
+  module _ {z : Bool} {q2 q3 q4 : Parsed} {v4 : List ℕ} (l : z ≡ looksP text q1 44) (y : z ≡ true) (x : q2 ≡ passed text 1 q1) (g : Gives (skipKeyword (bytes "inrange")) tt text q2 q3) where
+    pub indices-more : (m : ℕ) → m ≡ n + 2 → 0 < u → Leads (parseTypedVal d) 0 [] (made same text q3) text q3 q3 v q4 v4 → Leads (gepIndices u (parseType d) (parseValue d) n ws) 0 ws (reach (gepIndices (u - 1) (parseType d) (parseValue d) m) text p0) text p0 q v q4 v4
+    unfolding gepIndices parseTypedVal
+    indices-more m e pos r = more (λ z. gepIndices z (parseType d) (parseValue d) n ws) u pos (token-yes _ _ gw l y x (val _ g (then _ r (λ t. subst (λ (j : ℕ). Leads (gepIndices (u - 1) (parseType d) (parseValue d) j (ws ++ t)) 3 (ws ++ t) (reach (gepIndices (u - 1) (parseType d) (parseValue d) m) text p0) text p0 q4 v4 q4 v4) e (stay (gepIndices (u - 1) (parseType d) (parseValue d) m))))))
+
+    pub indices-out : {E : Goal Listed} {q5 : Parsed} → u ≤ 0 → Types d text q3 v q4 v4 → q5 ≡ refused 19 q4 → Leads (gepIndices u (parseType d) (parseValue d) n ws) 0 ws E text p0 q v q5 v4
+    unfolding gepIndices overType
+    indices-out h r o = no-more (λ z. gepIndices z (parseType d) (parseValue d) n ws) u h (token-yes _ _ gw l y x (val _ g (type-then 19 _ r stuck-out (λ t. fail-is _ o))))
+
+-- ---- a word that stays, and the first byte of one
+read-word : (text : List ℕ) (p : Parsed) (kw : List ℕ) {r z : Bool} {cur : Cursor} → r ≡ wordP text p kw → r ≡ z → p ≡ Ok cur → sameWord (leadWord (drop (cur .at) text)) kw ≡ z
+read-word text p kw l y e = ap (λ (q : Parsed). wordP text q kw) (sym e) ∙ sym l ∙ y
+
+at-run : {A : Type 0} (kw : List ℕ) (f g : Prog A) (i : ℕ) (s : List ℕ) (z : Bool) → sameWord (leadWord s) kw ≡ z → run (wordAtIf kw f g) i s ≡ run (elim z [ true ↦ f | false ↦ g ]) i s
+unfolding run wordAtIf
+at-run kw f g i s z e = ap (λ (y : Bool). run (elim y [ true ↦ f | false ↦ g ]) i s) e
+
+module _ {A : Type 0} {mid : List ℕ} {E : Goal A} {text : List ℕ} {p0 p p′ : Parsed} {w w′ : List ℕ} {c : ℕ} where
+  pub word-at-yes : {f : Prog A} (kw : List ℕ) (g : Prog A) {r : Bool} → r ≡ wordP text p kw → r ≡ true → Leads f c mid E text p0 p w p′ w′ → Leads (wordAtIf kw f g) c mid E text p0 p w p′ w′
+  word-at-yes {f} kw g l y s = record {
+    runs = λ d low k cur e a. subst (λ (z : Res A). E .ends d k low z p′ w′) (sym (at-run kw f g (cur .at) (drop (cur .at) text) true (read-word text p kw l y e))) (s .runs d low k cur e a);
+    hands = s .hands;
+  }
+
+  pub word-at-no : {g : Prog A} (kw : List ℕ) (f : Prog A) {r : Bool} → r ≡ wordP text p kw → r ≡ false → Leads g c mid E text p0 p w p′ w′ → Leads (wordAtIf kw f g) c mid E text p0 p w p′ w′
+  word-at-no {g} kw f l y s = record {
+    runs = λ d low k cur e a. subst (λ (z : Res A). E .ends d k low z p′ w′) (sym (at-run kw f g (cur .at) (drop (cur .at) text) false (read-word text p kw l y e))) (s .runs d low k cur e a);
+    hands = s .hands;
+  }
+
+  pub eat-then : {f : Prog A} (x : ℕ) (xs : List ℕ) {r : Bool} {q : Parsed} → r ≡ wordP text p (x ∷ xs) → r ≡ true → q ≡ passed text 1 p → Leads f (c + 3) mid E text p0 q w p′ w′ → Leads (eat f) c mid E text p0 p w p′ w′
+  eat-then {f} x xs {r} {q} l y h s = record {
+    runs = λ d low k cur e a.
+        let o : 1 ≤ length (drop (cur .at) text) = omega (arith, some-word (x ∷ xs) (drop (cur .at) text) (read-word text p (x ∷ xs) l y e)) in
+        subst (λ (z : Res A). E .ends d k low z p′ w′) (sym (run-eat f text (cur .at) o)) (moved c 1 (c + 3) cur (h ∙ ap (passed text 1) e) o (omega arith) d low k a s);
+    hands = λ e j t. true-false (ap (λ (z : Parsed). wordP text z (x ∷ xs)) (sym t) ∙ sym l ∙ y);
+  }
+
+-- ---- the depth
+-- behind the forms that hold no other
+unfoldable pub holding : ℕ → Prog TypeOut → Prog (List ℕ) → Prog (List ℕ)
+holding i type value =
+    byteIf 91 (aggregate 25 93 type value) (byteIf 123 (aggregate 26 125 type value) (byteIf 60 (packedConst i type value) (constExprs type value)))
+
+pub value-none : {d : ℕ} {text : List ℕ} {p q r : Parsed} {w : List ℕ} → d ≡ 0 → Gives eatWs tt text p q → r ≡ refused 16 q → Leads (parseValue d) 0 [] (made same text p) text p p w r w
+unfolding parseValue
+value-none {d} e g h = rw e (val _ g (fail-is _ h))
+
+value-at : {text : List ℕ} {p q r : Parsed} {w w1 : List ℕ} (d : ℕ) → Gives eatWs tt text p q → Leads (leafValues (holding (placeP q) (parseType d) (parseValue d))) 0 [] (made same text q) text q q w r w1 → Leads (parseValue (suc d)) 0 [] (made same text p) text p p w r w1
+unfolding parseValue valueWith holding
+value-at d g k = val _ g (place-at _ _ refl (λ _. call 0 (omega arith) k))
+
+pub value-some : {text : List ℕ} {p q r : Parsed} {w w1 : List ℕ} (d : ℕ) → (d ≡ 0 → ⊥) → Gives eatWs tt text p q → Leads (leafValues (holding (placeP q) (parseType (d - 1)) (parseValue (d - 1)))) 0 [] (made same text q) text q q w r w1 → Leads (parseValue d) 0 [] (made same text p) text p p w r w1
+value-some {text} {p} {q} {r} {w} {w1} d n g k = let e : suc (d - 1) ≡ d = omega arith in subst (λ (z : ℕ). Leads (parseValue z) 0 [] (made same text p) text p p w r w1) e (value-at (d - 1) g k)
+
+-- the place of the `<`, in the code
+pub packed-as : {i j : ℕ} (t : Prog TypeOut) (x : Prog (List ℕ)) {text : List ℕ} {p q : Parsed} {w w1 : List ℕ} → i ≡ j → Leads (packedConst i t x) 1 [] (made same text p) text p p w q w1 → Leads (packedConst j t x) 1 [] (made same text p) text p p w q w1
+packed-as t x {text} {p} {q} {w} {w1} e h = subst (λ (z : ℕ). Leads (packedConst z t x) 1 [] (made same text p) text p p w q w1) e h
