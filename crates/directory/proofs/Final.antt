@@ -7,12 +7,12 @@ use native.Mathlib.Nat.{sub-zero, zero-add, add-zero}
 use native.Mathlib.Numerals.{add-one}
 use native.Mathlib.Omega.{arith}
 use lib.ListN.{length, take, drop, set, replicate, length-append, length-drop, length-set, take-append-drop}
-use lib.Seq.{take-add, take-at, drop-at, drop-drop, length-take-le, take-append-le, take-take, paste, length-paste}
+use lib.Seq.{take-add, take-at, drop-at, drop-drop, length-take-le, take-append-le, take-take, paste, paste-zero, length-paste}
 use Rattle.records.specs.Words.{pack}
-use Rattle.records.specs.Pieces.{Run, done, Source, before, fine, pad, oldSizes, oldWords, count, left, leave, again-left, leaveAgain}
+use Rattle.records.specs.Pieces.{Run, done, Source, before, Verdict, fine, pad, oldSizes, oldWords, count, left, leave, again-left, leaveAgain}
 use Rattle.directory.specs.Olds.{oldsOf, moved, Chained, RoomFor, KeptBehind}
-use Rattle.directory.specs.Place.{fullThen, readSize, readWords, readEntries, restLeft, wordsLeft, entriesLeft}
-use Rattle.directory.proofs.Links.{olds-length, words-split}
+use Rattle.directory.specs.Place.{fullThen, readSize, readWords, readEntries, restLeft, wordsLeft, entriesLeft, Settled}
+use Rattle.directory.proofs.Links.{olds-length, words-split, no-more}
 use Rattle.directory.proofs.Moved.{moved-length, entry-put}
 use Rattle.directory.proofs.Place.{entries-length, full-fine, left-fine}
 
@@ -66,6 +66,17 @@ module _ (ws new w2 : List ℕ) (a f m : ℕ) (ha : a ≤ length ws) (hm : a + l
   words-final e d =
       take-add (a + length new) m w2
       ∙ rw (e, d, moved-behind, take-at (take m (drop f ws)) (drop (a + length new + m) ws) m (length-take-le m (drop f ws) stretch-long)) (append-assoc (take a ws) new (take m (drop f ws)))
+
+-- nothing is kept behind
+pub kept-none : (ws dir : List ℕ) (n t pos at : ℕ) → n * 2 ≤ length dir → KeptBehind ws dir n n t pos at at ws dir
+unfolding oldWords moved
+kept-none ws dir n t pos at h =
+    let z : n - n ≡ 0 = omega arith in
+    record {
+      end = rw (no-more n dir h) (sym (add-zero at));
+      words = rw (no-more n dir h) (paste-zero ws at (drop (oldWords (take n (oldsOf n dir))) ws));
+      entries = rw (z, add-zero t) (sym (take-append-drop (t * 2) dir));
+    }
 
 -- ---- the directory of a re-reading
 -- d1: the old entries from number j on have moved to number i; `cur`: then the entries in front of them were put
@@ -171,3 +182,39 @@ module _ (T : ℕ) (ws : List ℕ) (n : ℕ) (dir : List ℕ) (c : Chained T (le
         let pd : d3 ≡ pad (length dir) (entriesLeft n dir k j fs) =
         ed ∙ cleared-behind d2 (entriesLeft n dir k j fs) ((k + length fs + (n - j)) * 2) (length dir) (g .long ∙ ld) (ap length (sym fe2) ∙ le) fe2 in
         left-fine T ws n dir c k j hk hj fs rest e ∙ rw (pw, pd)
+
+-- ---- the same in the numbers that the code has: the first pass ended as `Settled`, `keep_behind` was called
+module _ (T len : ℕ) (ws : List ℕ) (n : ℕ) (dir : List ℕ) (c : Chained T (length ws) n dir) (v : Verdict) (rest : Run Source) (k k₁ k₂ i pos at j : ℕ) (hk : k ≤ n)
+    (q₁ : k₁ ≡ oldSizes (take k (oldsOf n dir))) (q₂ : k₂ ≡ oldWords (take k (oldsOf n dir))) (g : Settled (length ws) (length dir) len v rest n dir k k₁ k₂ i pos at j)
+    (r : ℕ) (w1 d1 : List ℕ) (b : KeptBehind ws dir n j i pos at r w1 d1) where
+  pos-is : pos ≡ oldSizes (take k (oldsOf n dir)) + readSize (g .fs)
+  pos-is = g .place ∙ ap (λ (x : ℕ). x + readSize (g .fs)) q₁
+
+  at-is : at ≡ oldWords (take k (oldsOf n dir)) + length (readWords (g .fs))
+  at-is = g .first ∙ ap (λ (x : ℕ). x + length (readWords (g .fs))) q₂
+
+  b2 : KeptBehind ws dir n j (k + length (g .fs)) (oldSizes (take k (oldsOf n dir)) + readSize (g .fs)) (oldWords (take k (oldsOf n dir)) + length (readWords (g .fs))) r w1 d1
+  b2 = rw (← g .number, ← pos-is, ← at-is) b
+
+  room2 : RoomFor (length ws) (length dir) (k + length (g .fs)) (oldWords (take k (oldsOf n dir)) + length (readWords (g .fs))) (drop j (oldsOf n dir))
+  room2 = rw (← g .number, ← at-is) (g .room)
+
+  -- before the second pass: the fronts are as they were
+  pub settled-entries : Put (take (k * 2) dir) d1 k d1
+  settled-entries = put-behind T ws n dir c k j hk (g .behind) (g .fs) r w1 d1 b2 room2
+
+  pub settled-words : take k₂ w1 ≡ take k₂ ws
+  settled-words = rw q₂ (words-behind T ws n dir c k j hk (g .behind) (g .fs) r w1 d1 b2 room2)
+
+  -- behind it, and behind two calls of `clear`
+  pub settled-left : (w2 w3 : List ℕ) → length w2 ≡ length ws → take at w2 ≡ take k₂ ws ++ readWords (g .fs) → drop at w2 ≡ drop at w1 → w3 ≡ take r w2 ++ replicate (length w2 - r) 0
+      → (d2 d3 : List ℕ) → Put (take (k * 2) dir ++ readEntries k₁ k₂ (g .fs)) d1 i d2 → d3 ≡ take ((i + (n - j)) * 2) d2 ++ replicate (length d2 - (i + (n - j)) * 2) 0
+      → leaveAgain ws (length dir) v k rest (before (take k (oldsOf n dir)) rest) ≡ again-left (left (count (i + (n - j))) w3 d3) k (i - k)
+  settled-left w2 w3 lw tw dw ew d2 d3 p ed =
+      let z : i - k ≡ length (g .fs) = omega (arith, g .number) in
+      rw (g .is, z)
+      (reread-left T ws n dir c k j hk (g .behind) (g .fs) r w1 d1 b2 room2 rest (g .run) w2 w3 lw
+      (rw (← at-is) (rw q₂ at tw)) (rw (← at-is) dw) ew d2 d3
+      (rw (← g .number, ← q₁, ← q₂) p)
+      (rw (← g .number) ed)
+      ∙ rw (← g .number))

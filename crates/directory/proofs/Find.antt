@@ -12,7 +12,10 @@ use lib.Dec.{leb, eqb}
 use lib.ListN.{length, take, drop, getD, drop-of-length-le}
 use borrow.Author.Tests.{eq-eqb, ne-eqb, le-leb, lt-leb}
 use Rattle.records.specs.Pieces.{Old, old, oldSizes, from, fromBlocks, joins}
-use Rattle.directory.specs.Olds.{oldsOf, Joined, Chained, Passed, FoundAt, FoundNot}
+use Rattle.directory.specs.Olds.{oldsOf, Joined, Chained, Passed, FoundAt, FoundNot, JoinsAt, JoinsNot}
+use Rattle.directory.specs.Answers.{Finds, Joins}
+use Rattle.directory.specs.declared.older.Found.{Found}
+use Rattle.directory.specs.declared.older.Found.the-variants.{At, Nothing}
 use Rattle.directory.proofs.Links.{sizeAt, firstAt, countAt, olds-next, olds-length, sizes-step, sizes-split}
 
 -- Before piece 1 only the head stands.
@@ -81,9 +84,9 @@ module _ (n : ℕ) (dir : List ℕ) (g : Joined n dir) (j target : ℕ) (p : Pas
             ∙ rw (add-one j, q, piece h) (from-next u (oldSizes (take j (oldsOf n dir))) (sizeAt dir j) (firstAt dir j) (countAt dir j) (drop (suc j) (oldsOf n dir)) (omega arith));
       }
 
--- ---- what the search answers, after a head or block, of the text s behind it
+-- ---- behind a head or block just read
 module _ (c olen : ℕ) (os : List Old) (s : List ℕ) where
-  pub joins-far : c < length s → joins c olen os s ≡ none
+  joins-far : c < length s → joins c olen os s ≡ none
   unfolding joins
   joins-far h = let t : leb (length s) c ≡ false = lt-leb (length s) c h in rw (joins, t)
 
@@ -91,12 +94,20 @@ module _ (c olen : ℕ) (os : List Old) (s : List ℕ) where
   unfolding joins
   joins-near h = let t : leb (length s) c ≡ true = le-leb (length s) c h in rw (joins, t)
 
-  pub joins-found : (j : ℕ) → length s ≤ c → FoundAt os (olen - length s) j → joins c olen os s ≡ some (drop j os)
-  joins-found j h f = joins-near h ∙ f .is
+module _ (c olen left : ℕ) (os : List Old) (j : ℕ) where
+  pub too-far : c < left → j ≤ length os → Passed os j (olen - left) → JoinsNot os c olen left j
+  too-far h l p = record { is = λ s e. joins-far c olen os s (omega arith); inside = l; passed = p }
 
-  pub joins-none : (j : ℕ) → length s ≤ c → FoundNot os (olen - length s) j → joins c olen os s ≡ none
-  joins-none j h f = joins-near h ∙ f .is
+  pub joins-found : left ≤ c → FoundAt os (olen - left) j → JoinsAt os c olen left j
+  joins-found h f = record { is = λ s e. joins-near c olen os s (omega arith) ∙ ap (λ (k : ℕ). fromBlocks (olen - k) os) e ∙ f .is; near = h; inside = f .inside; start = f .start }
+
+  pub joins-none : left ≤ c → FoundNot os (olen - left) j → JoinsNot os c olen left j
+  joins-none h f = record { is = λ s e. joins-near c olen os s (omega arith) ∙ ap (λ (k : ℕ). fromBlocks (olen - k) os) e ∙ f .is; inside = f .inside; passed = f .passed }
+
+pub joins-is : (c olen left : ℕ) (os : List Old) (r : Found) → left ≤ c → Finds os (olen - left) r → Joins os c olen left r
+joins-is c olen left os (At j) h f = joins-found c olen left os j h f
+joins-is c olen left os (Nothing j) h f = joins-none c olen left os j h f
 
 -- The old pieces from there on are no longer than the text that remains.
-pub kept-size : (T W n : ℕ) (dir : List ℕ) (len j : ℕ) → Chained T W n dir → len ≤ T → FoundAt (oldsOf n dir) (T - len) j → oldSizes (drop j (oldsOf n dir)) ≤ len
-kept-size T W n dir len j c h f = omega (arith, sizes-split j (oldsOf n dir), c .in-text, f .start)
+pub kept-size : (T W n : ℕ) (dir : List ℕ) (c left j : ℕ) → Chained T W n dir → c ≤ T → JoinsAt (oldsOf n dir) c T left j → oldSizes (drop j (oldsOf n dir)) ≤ left
+kept-size T W n dir c left j g h f = omega (arith, sizes-split j (oldsOf n dir), g .in-text, f .start, f .near)

@@ -125,12 +125,17 @@ after-fine Fits p v h = (refl, h)
 after-fine Words p v h = let z : _≡_ {A = ℕ} 0 1 = cc in absurd (omega arith)
 after-fine Entry p v h = let z : _≡_ {A = ℕ} 0 1 = cc in absurd (omega arith)
 
-pub kept-room : (W D i pos at : ℕ) (os : List Old) → at ≤ W → at < 4294967296 → i * 2 ≤ D → judge W D i pos at (sizesOf os) ≡ fine → RoomFor W D i at os
+rest-small : (W D i at n : ℕ) (os : List Old) → Fitting W D i at n → RoomFor W D (suc i) (at + n) os → at + (n + oldWords os) < 4294967296
 unfolding oldWords
-kept-room W D i pos at [] a b c h = record { in-words = omega arith; small = omega arith; entries = omega arith }
-kept-room W D i pos at (old e f n ∷ os) a b c h =
+rest-small W D i at n [] g r = omega (arith, g .small)
+rest-small W D i at n (old e f m ∷ os) g r = omega (arith, r .small (omega arith))
+
+pub kept-room : (W D i pos at : ℕ) (os : List Old) → at ≤ W → i * 2 ≤ D → judge W D i pos at (sizesOf os) ≡ fine → RoomFor W D i at os
+unfolding oldWords
+kept-room W D i pos at [] a c h = record { in-words = omega arith; small = λ z. absurd (omega arith); entries = omega arith }
+kept-room W D i pos at (old e f n ∷ os) a c h =
     let t : (roomOf W D i at n ≡ Fits) × (judge W D (suc i) (pos + e) (at + n) (sizesOf os) ≡ fine) =
     after-fine (roomOf W D i at n) (pos + e) (judge W D (suc i) (pos + e) (at + n) (sizesOf os)) (sym (judge-old W D i pos at e f n os) ∙ h) in
     let g : Fitting W D i at n = fitting W D i at n (t .0) in
-    let r : RoomFor W D (suc i) (at + n) os = kept-room W D (suc i) (pos + e) (at + n) os (g .in-words) (g .small) (omega (arith, g .entry)) (t .1) in
-    record { in-words = omega (arith, r .in-words); small = omega (arith, r .small); entries = omega (arith, r .entries) }
+    let r : RoomFor W D (suc i) (at + n) os = kept-room W D (suc i) (pos + e) (at + n) os (g .in-words) (omega (arith, g .entry)) (t .1) in
+    record { in-words = omega (arith, r .in-words); small = λ z. rest-small W D i at n os g r; entries = omega (arith, r .entries) }

@@ -10,3 +10,5 @@ pub mod Find
 pub mod Moved
 pub mod Place
 pub mod Final
+pub mod Again
+pub mod Write

@@ -9,7 +9,7 @@ use native.Mathlib.Nat.{add-zero, zero-add, add-assoc}
 use native.Mathlib.Numerals.{add-one}
 use native.Mathlib.Omega.{arith}
 use lib.Dec.{leb, eqb}
-use lib.ListN.{length, take, drop, getD}
+use lib.ListN.{length, take, drop, getD, drop-of-length-le}
 use borrow.Author.Tests.{leb-true, eqb-true, lt-leb}
 use Rattle.records.specs.Pieces.{Old, old, chain, consOld, olds, oldSizes, oldWords}
 use Rattle.directory.specs.Olds.{answers, oldsOf, Joined, Chained}
@@ -102,6 +102,10 @@ module _ (n f : ℕ) (dir : List ℕ) (h : f ≤ n) where
 
   pub kept-words : oldWords (oldsOf n dir) ≡ oldWords (oldsOf f dir) + oldWords (drop f (oldsOf n dir))
   kept-words = words-split f (oldsOf n dir) ∙ ap (λ (x : ℕ). x + oldWords (drop f (oldsOf n dir))) (sym kept-first)
+
+-- none are left from number n on
+pub no-more : (n : ℕ) (dir : List ℕ) → n * 2 ≤ length dir → drop n (oldsOf n dir) ≡ []
+no-more n dir h = drop-of-length-le (oldsOf n dir) {i = n} (omega (arith, olds-length n dir h))
 
 -- ---- a chain
 record Step (T W n pos at x y : ℕ) (dir : List ℕ) (os : List Old) : Type 0 where

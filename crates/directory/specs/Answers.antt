@@ -8,7 +8,7 @@ use Rattle.records.specs.Pieces.{fine, refused, Old}
 use Rattle.records.specs.Pieces as pieces
 use Rattle.directory.specs.declared.text.Verdict.{Verdict}
 use Rattle.directory.specs.declared.text.Verdict.the-variants.{Fine, Refused}
-use Rattle.directory.specs.Olds.{FoundAt, FoundNot}
+use Rattle.directory.specs.Olds.{FoundAt, FoundNot, JoinsAt, JoinsNot}
 use Rattle.directory.specs.declared.older.Found.{Found}
 use Rattle.directory.specs.declared.older.Found.the-variants.{At, Nothing}
 use Rattle.directory.specs.declared.rooms.Room.{Room}
@@ -36,3 +36,8 @@ afterRoom Entry place v = refused 21 place
 abbrev pub Finds : List Old → ℕ → Found → Type 0
 Finds os target (At j) = FoundAt os target j
 Finds os target (Nothing j) = FoundNot os target j
+
+-- Which old pieces are kept behind a piece just read, where `left` bytes remain.
+abbrev pub Joins : List Old → (c olen left : ℕ) → Found → Type 0
+Joins os c olen left (At j) = JoinsAt os c olen left j
+Joins os c olen left (Nothing j) = JoinsNot os c olen left j

@@ -9,7 +9,7 @@ use lib.ListN.{length, getD, take, drop}
 use lib.Seq.{paste}
 use Rattle.program.specs.Class.{isWord}
 use Rattle.records.specs.Words.{pack}
-use Rattle.records.specs.Pieces.{Old, old, olds, oldSizes, oldWords, keptFront, from, fromBlocks}
+use Rattle.records.specs.Pieces.{Old, old, olds, oldSizes, oldWords, keptFront, from, fromBlocks, joins}
 
 -- Question 22 as a truth value.
 unfoldable pub answers : Option (List Old) → Bool
@@ -66,6 +66,19 @@ pub record FoundNot (os : List Old) (target j : ℕ) : Type 0 where
   pub inside : j ≤ length os
   pub passed : Passed os j target
 
+-- Behind a piece, `left` bytes from the text's end, the old pieces from number j on are kept.
+pub record JoinsAt (os : List Old) (c olen left j : ℕ) : Type 0 where
+  pub is : (s : List ℕ) → length s ≡ left → joins c olen os s ≡ some (drop j os)
+  pub near : left ≤ c
+  pub inside : j < length os
+  pub start : oldSizes (take j os) ≡ olen - left
+
+-- None is; behind a later piece they are looked for from j on.
+pub record JoinsNot (os : List Old) (c olen left j : ℕ) : Type 0 where
+  pub is : (s : List ℕ) → length s ≡ left → joins c olen os s ≡ none
+  pub inside : j ≤ length os
+  pub passed : Passed os j (olen - left)
+
 -- The first n entries of a directory, moved so that they start at pos and at word `at`.
 unfoldable pub moved : (n pos at : ℕ) → List ℕ → List ℕ
 moved zero pos at dir = []
@@ -73,10 +86,10 @@ moved (suc n) pos at [] = []
 moved (suc n) pos at (x ∷ []) = []
 moved (suc n) pos at (x ∷ y ∷ dir) = pack pos (x % 4294967296) ∷ pack at (y % 4294967296) ∷ moved n (pos + x % 4294967296) (at + y % 4294967296) dir
 
--- Old pieces have room as pieces i and so on, with their words from `at` on.
+-- Old pieces, if any, have room as pieces i and so on, with their words from `at` on.
 pub record RoomFor (W D i at : ℕ) (os : List Old) : Type 0 where
   pub in-words : at + oldWords os ≤ W
-  pub small : at + oldWords os < 4294967296
+  pub small : 0 < length os → at + oldWords os < 4294967296
   pub entries : (i + length os) * 2 ≤ D
 
 -- The old pieces from number f on have become pieces t and so on, from pos and from word `at` on; r is the end of their words.

@@ -165,6 +165,9 @@ pub fn keep_behind(
     requires { ⌜ RoomFor (length (now words)) (length (now directory)) to at (drop from (oldsOf entries (now directory))) ⌝ }
     ensures { λ r. ⌜ KeptBehind (now (words .entry)) (now (directory .entry)) entries from to pos at r (now (words .exit)) (now (directory .exit)) ⌝ }
 {
+    if from == entries {
+        return at;
+    }
     let here = front_of(directory, from);
     let end = front_of(directory, entries);
     let first = here.at;

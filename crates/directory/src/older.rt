@@ -1,9 +1,9 @@
 // The older directory.
 ghost use mathlib.Core.Path.{_≡_};
-ghost use Prim.Native.Nat.{_≤_};
+ghost use Prim.Native.Nat.{_-_, _≤_};
 ghost use Rattle.records.specs.Pieces.{olds};
 ghost use Rattle.directory.specs.Olds.{answers, oldsOf, Joined, Passed};
-ghost use Rattle.directory.specs.Answers.{Finds};
+ghost use Rattle.directory.specs.Answers.{Finds, Joins};
 
 // Question 22: "Does the older directory, whose entry count is lent, have at least 2 entries within its array, the first starting at 0
 // in text and words, each starting where the last ended, ending inside older text and words?"
@@ -69,4 +69,25 @@ pub fn find_old(directory: &[u64], entries: usize, from: usize, target: usize) -
         j += 1;
     }
     Found::Nothing(j)
+}
+
+// "After each head or block read, if at most c bytes remain and the old start at the same distance from the text's end belongs to a block
+// or tail": `left` bytes remain; looked for from piece `from` on.
+pub fn join_old(
+    directory: &[u64],
+    entries: usize,
+    from: usize,
+    older_len: usize,
+    c: usize,
+    left: usize,
+) -> Found
+    requires { ⌜ (from ≤ entries) × (c ≤ «older_len») ⌝ }
+    requires { ⌜ Joined entries (now directory) ⌝ }
+    requires { ⌜ Passed (oldsOf entries (now directory)) from («older_len» - left) ⌝ }
+    ensures { λ r. ⌜ Joins (oldsOf entries (now (directory .entry))) c «older_len» left r ⌝ }
+{
+    if c < left {
+        return Found::Nothing(from);
+    }
+    find_old(directory, entries, from, older_len - left)
 }

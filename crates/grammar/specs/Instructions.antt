@@ -1,4 +1,5 @@
 -- Instructions and terminators (parser.rs "Functions" and "Terminators"), as programs that give their words, each behind its opcode.
+-- A definition is named as its Rust function, in the other spelling: `parse_bin` is `parseBin`.
 -- 01: "Record words": the destination is the first payload word, zero when absent; no terminator has one.
 -- Assumes nothing.
 use mathlib.Core.Bool.{Bool, true, false}
@@ -11,7 +12,7 @@ use Rattle.program.specs.Bytes.{bytes, byte}
 use Rattle.program.specs.Prog.{Prog, ret, fail, look, eat, here, lead, scan, _>>=_}
 use Rattle.records.specs.Words.{node}
 use Rattle.grammar.specs.Kinds.{kFunc, kIntConst, kBin, kFBin, kFNeg, kConv, kICmp, kFCmp, kSelect, kLoad, kStore, kAlloca, kGep, kPhi, kCall, kFreeze, kAtomicLoad, kAtomicStore, kCmpxchg, kExtractValue, kFence, kRet, kBr, kSwitch, kUnreachable, kName}
-use Rattle.grammar.specs.Lexer.{turns, refuse, eatWs, byteIf, wordIf, rankIf, tokenIf, expectToken, expectKeyword, skipKeyword, skipOne, skipAll, dotsIf, sameWord, rank, parseLocalName, skipParens, skipMetadataRef}
+use Rattle.grammar.specs.Lexer.{turns, refuse, eatWs, byteIf, byteAtIf, wordIf, rankIf, tokenIf, expectToken, expectKeyword, skipKeyword, skipOne, skipAll, dotsIf, sameWord, rank, parseLocalName, skipParens, skipMetadataRef}
 use Rattle.grammar.specs.Numbers.{parseInt, most64}
 use Rattle.grammar.specs.Attributes.{skipAttrs, skipCallCconv, skipArithFlags, skipFastMathFlags, convFlags}
 use Rattle.grammar.specs.Types.{Listed, listed, countOf, dotsOf, wordsOf, TypeOut, plain, opened, depthLimit, whole, parseTypeList, parseType}
@@ -91,15 +92,20 @@ parseFneg dest = do
   _ ← parseTrailing
   ret (node kFNeg 0 2 (dest ∷ x))
 
--- an instruction that ends in a type: a `(` behind it begins the next statement, which refuses with 8
+-- Behind an instruction that ends in a type a `(` begins the next statement, which refuses with 8: here already, since a type that read a list
+-- says so of its `(` too.
+unfoldable pub noParen : {A : Type 0} → Prog A → Prog A
+noParen p = byteAtIf (byte "(") (refuse 8) p
+
 unfoldable pub parseConv : ℕ → ℕ → Prog (List ℕ)
 parseConv op dest = do
   _ ← skipAll turns convFlags
   x ← parseTypedVal depthLimit
   _ ← expectKeyword (bytes "to")
   t ← type 8
-  _ ← parseTrailing
-  ret (node kConv op 3 (dest ∷ (x ++ t)))
+  noParen (do
+    _ ← parseTrailing
+    ret (node kConv op 3 (dest ∷ (x ++ t))))
 
 -- `ICmpPred`, in ast.rs order
 unfoldable pub icmpPreds : List (List ℕ)
@@ -251,7 +257,7 @@ unfoldable pub parseAlloca : ℕ → Prog (List ℕ)
 parseAlloca dest = do
   _ ← skipKeyword (bytes "inalloca")
   t ← type 8
-  allocaRest turns dest t [] []
+  noParen (allocaRest turns dest t [] [])
 
 -- a getelementptr's indices, from before the comma: k of them so far; base type and pointer stand before them
 unfoldable pub gepInstIndices : ℕ → ℕ → List ℕ → Prog Listed

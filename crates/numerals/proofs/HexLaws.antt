@@ -1,9 +1,9 @@
 -- The bits of floats from hex digits.
 -- Assumes nothing.
 use mathlib.Core.Path.{_≡_, refl, sym, ap, _∙_, subst}
-use mathlib.Core.List.{List, [], _∷_}
+use mathlib.Core.List.{List, []}
 use mathlib.Core.Bool.{Bool, true, false}
-use Prim.Native.Nat.{ℕ, _+_, _≤_}
+use Prim.Native.Nat.{ℕ, _+_}
 use native.Mathlib.Omega.{arith}
 use lib.Dec.{eqb}
 use lib.ListN.{length, drop}
@@ -72,10 +72,10 @@ as-bits (Question n) false v e =
     ap refuse z
 
 -- behind the digits
-abbrev pub hexBits : List ℕ → Prog ℕ
+abbrev hexBits : List ℕ → Prog ℕ
 hexBits w = elim (inside 1 16 (length w)) [ true ↦ ret (hexOf 0 w) | false ↦ refuse 7 ]
 
-abbrev pub f0xBits : List ℕ → Prog ℕ
+abbrev f0xBits : List ℕ → Prog ℕ
 f0xBits w = elim (eqb (length w) 8) [ true ↦ ret (widen (hexOf 0 w)) | false ↦ elim (eqb (length w) 16) [ true ↦ ret (hexOf 0 w) | false ↦ refuse 7 ] ]
 
 module _ {text : List ℕ} {p q r : Parsed} {h : Hex} {l : Literal} {v : ℕ} (a : HexAt text p q h) where

@@ -6,7 +6,7 @@ use mathlib.Core.Bool.{Bool, true, false}
 use Prim.Native.Nat.{ℕ}
 use native.Mathlib.Omega.{arith}
 use Rattle.program.specs.Class.{classOf, isDigit}
-use Rattle.program.specs.Prog.{Prog, ret, _>>=_}
+use Rattle.program.specs.Prog.{Prog, ret}
 use Rattle.records.specs.Words.{node}
 use Rattle.grammar.specs.Lexer.{isByte}
 use Rattle.grammar.specs.Numbers.{parseNumeral}
@@ -14,7 +14,6 @@ use Rattle.grammar.specs.Values.{floatNode, literalWords, numeral, numericOr}
 use Rattle.lexer.specs.Step.{looksP, passed}
 use Rattle.lexer.specs.Reads.{Leads, Reads, Goal, Gives, made, same}
 use Rattle.lexer.specs.declared.Parsed.{Parsed}
-use Rattle.lexer.specs.declared.Parsed.the-variants.{Ok, Refused}
 use Rattle.lexer.proofs.Laws.{val-paid, call, byte-yes, byte-no, true-false}
 use Rattle.literals.specs.declared.literal.Literal.the-variants.{Int, Float, Refused as Question}
 use Rattle.literals.specs.declared.literal.Literal.{Literal}
@@ -22,7 +21,7 @@ use Rattle.numerals.specs.Tests.{digitP}
 use Rattle.numerals.specs.Reads.{LitAt, writtenOf, Out}
 use Rattle.numerals.specs.Constants.{plusValue, minusValue, digitValue, NumericVal}
 use Rattle.numerals.specs.declared.Lit.{Lit}
-use Rattle.numerals.proofs.Passing.{numeral-passes}
+use Rattle.numerals.proofs.Passing.{passes-numeral}
 use Rattle.numerals.proofs.TestLaws.{digit-yes, digit-no, digit-first, byte-first}
 
 -- a refusal is handed on
@@ -32,15 +31,15 @@ refused-is o = record { runs = λ b low k cur t a. absurd (subst Out t o); hands
 module _ (neg : Bool) {text : List ℕ} {p : Parsed} {x : Lit} {w : List ℕ} (a : LitAt neg text p x) where
   pub node-int : {p′ : Parsed} {w′ : List ℕ} (h k : ℕ) → x .lit ≡ Int h k → Leads (ret (node 18 0 0 (h ∷ k ∷ []))) 3 [] (made same text (x .p)) text (x .p) (x .p) w p′ w′ → Reads (numeral neg) text p w p′ w′
   unfolding numeral literalWords writtenOf
-  node-int h k e n = val-paid _ 1 (numeral-passes neg) (subst (λ (l : Literal). Gives (parseNumeral neg) (writtenOf l) text p (x .p)) e (a .gives)) (call 3 (omega arith) n)
+  node-int h k e n = val-paid _ 1 (passes-numeral neg) (subst (λ (l : Literal). Gives (parseNumeral neg) (writtenOf l) text p (x .p)) e (a .gives)) (call 3 (omega arith) n)
 
   pub node-float : {p′ : Parsed} {w′ : List ℕ} (b : ℕ) → x .lit ≡ Float b → Leads (floatNode b) 2 [] (made same text (x .p)) text (x .p) (x .p) w p′ w′ → Reads (numeral neg) text p w p′ w′
   unfolding numeral literalWords writtenOf floatNode
-  node-float b e n = val-paid _ 1 (numeral-passes neg) (subst (λ (l : Literal). Gives (parseNumeral neg) (writtenOf l) text p (x .p)) e (a .gives)) (call 2 (omega arith) n)
+  node-float b e n = val-paid _ 1 (passes-numeral neg) (subst (λ (l : Literal). Gives (parseNumeral neg) (writtenOf l) text p (x .p)) e (a .gives)) (call 2 (omega arith) n)
 
   pub node-out : (n : ℕ) → x .lit ≡ Question n → Reads (numeral neg) text p w (x .p) w
   unfolding numeral
-  node-out n e = val-paid _ 1 (numeral-passes neg) (a .gives) (refused-is (a .out n e))
+  node-out n e = val-paid _ 1 (passes-numeral neg) (a .gives) (refused-is (a .out n e))
 
 -- ---- the tests of a numeric constant, a digit first
 no-plus : isDigit 43 ≡ false

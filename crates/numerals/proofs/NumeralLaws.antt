@@ -1,15 +1,15 @@
 -- A numeral part by part, and the literal that it is.
 -- Assumes nothing.
 use mathlib.Core.Path.{_≡_, refl, sym, ap, _∙_, subst}
-use mathlib.Core.List.{List, [], _∷_}
+use mathlib.Core.List.{List, []}
 use mathlib.Core.Bool.{Bool, true, false}
-use Prim.Native.Nat.{ℕ, _+_, _≤_, _^_}
+use Prim.Native.Nat.{ℕ, _≤_}
 use native.Mathlib.Omega.{arith}
 use lib.ListN.{length}
-use Rattle.program.specs.Prog.{Prog, _>>=_}
+use Rattle.program.specs.Prog.{Prog}
 use Rattle.grammar.specs.Numbers.{Numeral, readSign, readExponent, behindPoint, readNumeric, literalOf, parseNumeral, Literal as Written}
 use Rattle.lexer.specs.Step.{looksP, passed, refused}
-use Rattle.lexer.specs.Reads.{Aim, Finds, Gives, gave}
+use Rattle.lexer.specs.Reads.{Aim, Finds, Gives}
 use Rattle.lexer.specs.declared.Parsed.{Parsed}
 use Rattle.lexer.specs.declared.Parsed.the-variants.{Ok, Refused}
 use Rattle.lexer.proofs.Laws.{g-then, g-done, g-byte-yes, g-byte-no, g-fail, true-false}
@@ -20,7 +20,7 @@ use Rattle.literals.specs.declared.literal.Literal.the-variants.{Int, Float, Re
 use Rattle.literals.specs.declared.literal.Literal.{Literal}
 use Rattle.literals.specs.declared.numeral.Fold.{Fold}
 use Rattle.literals.proofs.Numerals.{numeral-literal}
-use Rattle.numerals.specs.Scans.{pushedIn, DigitsAt}
+use Rattle.numerals.specs.Scans.{DigitsAt}
 use Rattle.numerals.specs.Reads.{PowerAt, TailAt, NumeralAt, LitAt, writtenOf, Out}
 use Rattle.numerals.specs.declared.Part.the-variants.{Whole, Behind, Power}
 

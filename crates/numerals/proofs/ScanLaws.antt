@@ -4,22 +4,20 @@ use mathlib.Core.Path.{_≡_, refl, sym, ap, _∙_}
 use mathlib.Core.List.{List, [], _∷_}
 use mathlib.Core.Bool.{Bool, true, false}
 use mathlib.Core.Option.{Option, none, some}
-use Prim.Native.Nat.{ℕ, zero, suc, _+_, _≤_, _<_}
-use native.Mathlib.Nat.{add-zero}
+use Prim.Native.Nat.{ℕ, _+_, _≤_, _<_}
 use native.Mathlib.Omega.{arith}
-use lib.Dec.{ltb, eqb}
-use lib.ListN.{length, getD, take, drop, drop-of-length-le, length-drop}
+use lib.Dec.{eqb}
+use lib.ListN.{length, getD, drop, drop-of-length-le, length-drop}
 use lib.Seq.{length-take-le}
 use borrow.Author.Tests.{eq-eqb, ne-eqb, lt-ltb, le-ltb}
 use Rattle.program.specs.Choice.{pick}
 use Rattle.program.specs.Class.{classOf, isDigit, isHex}
-use Rattle.program.specs.Prog.{Prog, ret, scan, run, ok, scanLen, scanLen-le}
+use Rattle.program.specs.Prog.{ret, run, ok, scanLen, scanLen-le}
 use Rattle.grammar.specs.Numbers.{digitStep, hexStep, digits}
 use Rattle.lexer.specs.Names.{taken}
 use Rattle.lexer.specs.declared.Cursor.{Cursor}
-use Rattle.lexer.specs.declared.Parsed.{Parsed}
 use Rattle.lexer.specs.declared.Parsed.the-variants.{Ok, Refused}
-use Rattle.lexer.proofs.Scan.{drop-next, scan-some, scan-out}
+use Rattle.lexer.proofs.Scan.{drop-next, scan-some}
 use Rattle.lexer.proofs.Laws.{given, kept, scan-run, true-false}
 use Rattle.literals.specs.Folds.{folded, allDigits, begins}
 use Rattle.literals.specs.Hex.{hexFolded, hexPushed}

@@ -3,13 +3,13 @@
 use mathlib.Core.Path.{_≡_, refl, sym, ap, _∙_, subst}
 use mathlib.Core.List.{List, [], _∷_}
 use mathlib.Core.Bool.{Bool, true, false, _&&_}
-use Prim.Native.Nat.{ℕ, zero, suc, _+_, _*_, _≤_, _<_}
+use Prim.Native.Nat.{ℕ, suc, _+_, _*_, _≤_, _<_}
 use native.Mathlib.Omega.{arith}
 use lib.Dec.{ltb, eqb}
 use lib.ListN.{length, getD, drop, drop-of-length-le}
-use borrow.Author.Tests.{eq-eqb, ne-eqb, lt-ltb, le-ltb, eqb-true}
+use borrow.Author.Tests.{eq-eqb, ne-eqb, eqb-true}
 use Rattle.program.specs.Class.{classOf, isDigit, isWord}
-use Rattle.program.specs.Prog.{Prog, lead, look, Res, run, byteAt, leadWord}
+use Rattle.program.specs.Prog.{Prog, Res, run, byteAt, leadWord}
 use Rattle.grammar.specs.Lexer.{isByte, byteIf, startsWith, eatN}
 use Rattle.grammar.specs.Values.{prefixIf, digitIf}
 use Rattle.lexer.specs.Step.{looksP, passed}

@@ -8,7 +8,6 @@ use crate::tests::starts;
 use lexer::Parsed;
 use lexer::looks;
 use lexer::pass;
-ghost use mathlib.Core.Path.{_≡_};
 ghost use Rattle.lexer.specs.Table.{Classes};
 ghost use Rattle.lexer.specs.Reads.{Reads};
 ghost use Rattle.numerals.specs.Constants.{plusValue, minusValue, digitValue, NumericVal};

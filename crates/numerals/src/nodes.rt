@@ -6,7 +6,6 @@ use lexer::Parsed;
 use lexer::close;
 use lexer::push;
 use literals::literal::Literal;
-ghost use mathlib.Core.Path.{_≡_};
 ghost use mathlib.Core.List.{List, [], _∷_};
 ghost use Prim.Native.Nat.{ℕ};
 ghost use Rattle.program.specs.Prog.{ret};

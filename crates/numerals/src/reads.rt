@@ -18,7 +18,6 @@ use literals::numeral::literal_of;
 use literals::numeral::pass_exponent;
 use literals::numeral::pass_point;
 use literals::numeral::start;
-ghost use mathlib.Core.Path.{_≡_};
 ghost use mathlib.Core.List.{List};
 ghost use Prim.Native.Nat.{ℕ};
 ghost use Rattle.grammar.specs.Numbers.{readSign, parseHexFloat, parseF0x};

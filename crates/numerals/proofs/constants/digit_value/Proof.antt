@@ -1,73 +1,16 @@
-use Rattle.numerals.proofs.TestLaws.{prefix-yes, prefix-no}
-use Rattle.lexer.proofs.Laws.{call}
 use native.Mathlib.Omega.{arith}
 use borrow.Author.Needs.{needs}
+use Rattle.lexer.proofs.Laws.{call}
+use Rattle.numerals.proofs.TestLaws.{prefix-yes, prefix-no}
 use Rattle.numerals.proofs.constants.digit_value.Statement.{statement}
 use Rattle.numerals.proofs.constants.digit_value.Tie as tie
-use Rattle.numerals.proofs.constants.digit_value.Reads as reads
-use Rattle.numerals.proofs.constants.digit_value.Lts as lts
-use Rattle.lexer.proofs.pass.Reads as pass-reads
-use Rattle.numerals.proofs.nodes.hex_value.Reads as hex-value-reads
-use Rattle.numerals.proofs.nodes.numeral.Reads as numeral-reads
-use Rattle.numerals.proofs.tests.starts.Reads as starts-reads
 
--- src/constants.rt:49:33
-slice-aggregate-starts : tie.Need-slice-aggregate-starts
-slice-aggregate-starts c = search needs
-
--- src/constants.rt:49:8
-starts-requires : tie.Need-starts-requires
-starts-requires c κs = search needs
-
--- src/constants.rt:50:13
-pass-requires : tie.Need-pass-requires
-pass-requires c κs = search needs
-
--- src/constants.rt:51:9
-hex-value-requires : tie.Need-hex-value-requires
-hex-value-requires c κs = search needs
-
--- src/constants.rt:51:9
-same-length : tie.Need-same-length
-same-length c = search needs
-
--- src/constants.rt:51:9
 returns : tie.Need-returns
 returns c = prefix-yes _ _ (c .before .before .before .before .before .before .starts .ensures) (c .before .before .before .before .before .if1 .taken) (c .before .before .before .before .pass .ensures) (call 0 (omega arith) (c .before .before .hex-value .ensures))
 
--- src/constants.rt:53:33
-slice-aggregate-starts-2 : tie.Need-slice-aggregate-starts-2
-slice-aggregate-starts-2 c = search needs
-
--- src/constants.rt:53:8
-starts-requires-2 : tie.Need-starts-requires-2
-starts-requires-2 c κs = search needs
-
--- src/constants.rt:54:13
-pass-requires-2 : tie.Need-pass-requires-2
-pass-requires-2 c κs = search needs
-
--- src/constants.rt:55:9
-hex-value-requires-2 : tie.Need-hex-value-requires-2
-hex-value-requires-2 c κs = search needs
-
--- src/constants.rt:55:9
-same-length-2 : tie.Need-same-length-2
-same-length-2 c = search needs
-
--- src/constants.rt:55:9
 returns-2 : tie.Need-returns-2
 returns-2 c = prefix-no _ _ (c .before .before .before .before .before .before .before .before .before .starts .ensures) (c .before .before .before .before .before .before .before .before .if1 .left) (prefix-yes _ _ (c .before .before .before .before .before .before .starts2 .ensures) (c .before .before .before .before .before .if2 .taken) (c .before .before .before .before .pass2 .ensures) (call 0 (omega arith) (c .before .before .hex-value2 .ensures)))
 
--- src/constants.rt:57:5
-numeral-requires : tie.Need-numeral-requires
-numeral-requires c κs = search needs
-
--- src/constants.rt:45:1
-same-length-3 : tie.Need-same-length-3
-same-length-3 c = search needs
-
--- src/constants.rt:45:1
 returns-3 : tie.Need-returns-3
 returns-3 c = prefix-no _ _ (c .before .before .before .before .before .before .before .before .starts .ensures) (c .before .before .before .before .before .before .before .if1 .left) (prefix-no _ _ (c .before .before .before .before .before .starts2 .ensures) (c .before .before .before .before .if2 .left) (c .before .before .numeral .ensures))
 
@@ -75,18 +18,18 @@ pub digit-value-spec : {M : Type 1} → statement M
 digit-value-spec =
     tie.close
     (tie.spec
-    slice-aggregate-starts
-    starts-requires
-    pass-requires
-    hex-value-requires
-    same-length
+    (λ c. search needs)
+    (λ c κs. search needs)
+    (λ c κs. search needs)
+    (λ c κs. search needs)
+    (λ c. search needs)
     returns
-    slice-aggregate-starts-2
-    starts-requires-2
-    pass-requires-2
-    hex-value-requires-2
-    same-length-2
+    (λ c. search needs)
+    (λ c κs. search needs)
+    (λ c κs. search needs)
+    (λ c κs. search needs)
+    (λ c. search needs)
     returns-2
-    numeral-requires
-    same-length-3
+    (λ c κs. search needs)
+    (λ c. search needs)
     returns-3)

@@ -1,34 +1,13 @@
+use borrow.Author.Needs.{needs}
 use Rattle.grammar.specs.Values.{floatNode}
 use Rattle.lexer.proofs.Laws.{push-then, close-is}
-use borrow.Author.Needs.{needs}
 use Rattle.numerals.proofs.nodes.float_node.Statement.{statement}
 use Rattle.numerals.proofs.nodes.float_node.Tie as tie
-use Rattle.numerals.proofs.nodes.float_node.Reads as reads
-use Rattle.numerals.proofs.nodes.float_node.Lts as lts
-use Rattle.lexer.proofs.close.Reads as close-reads
-use Rattle.lexer.proofs.push.Reads as push-reads
 
--- src/nodes.rt:24:9
-push-requires : tie.Need-push-requires
-push-requires c κs = search needs
-
--- src/nodes.rt:25:9
-push-requires-2 : tie.Need-push-requires-2
-push-requires-2 c κs = search needs
-
--- src/nodes.rt:26:5
-close-requires : tie.Need-close-requires
-close-requires c κs = search needs
-
--- src/nodes.rt:21:1
-same-length : tie.Need-same-length
-same-length c = search needs
-
--- src/nodes.rt:21:1
 returns : tie.Need-returns
 unfolding floatNode
 returns c = λ text. push-then _ (c .before .before .before .before .before .before .before .before .before .before .push .ensures) (push-then _ (c .before .before .before .before .before .before .push2 .ensures) (close-is _ _ _ _ (c .before .before .close .ensures)))
 
 pub float-node-spec : {M : Type 1} → statement M
 float-node-spec =
-    tie.close (tie.spec push-requires push-requires-2 close-requires same-length returns)
+    tie.close (tie.spec (λ c κs. search needs) (λ c κs. search needs) (λ c κs. search needs) (λ c. search needs) returns)

@@ -1,0 +1,86 @@
+//! The keyword tables of the definitions, held against the lists in the Rust.
+
+use std::fs;
+use std::path::Path;
+
+fn read(path: &str) -> String {
+    let full = Path::new(env!("CARGO_MANIFEST_DIR")).join(path);
+    fs::read_to_string(&full).unwrap_or_else(|e| panic!("{}: {}", full.display(), e))
+}
+
+fn parser() -> String {
+    read("../uvclang/src/parser.rs")
+}
+
+/// The text between two marks.
+fn between<'a>(text: &'a str, from: &str, to: &str) -> &'a str {
+    let start = text.find(from).unwrap_or_else(|| panic!("no {from:?}")) + from.len();
+    let rest = &text[start..];
+    &rest[..rest.find(to).unwrap_or_else(|| panic!("no {to:?} behind {from:?}"))]
+}
+
+/// The quoted words of a text, comments left out.
+fn quoted(text: &str) -> Vec<String> {
+    let mut words = vec![];
+    for line in text.lines() {
+        let code = line.split("//").next().unwrap_or("");
+        words.extend(code.split('"').skip(1).step_by(2).map(str::to_string));
+    }
+    words
+}
+
+/// The words of a table in the definitions: `NAME = bytes ".." ∷ .. ∷ []`.
+fn table(module: &str, name: &str) -> Vec<String> {
+    let text = read(&format!("../../crates/grammar/specs/{module}.antt"));
+    quoted(between(&text, &format!("\n{name} ="), "[]"))
+}
+
+/// The words that one function of the Rust tries with `match_keyword`.
+fn matched(function: &str, until: &str) -> Vec<String> {
+    let text = parser();
+    let body = between(&text, &format!("fn {function}("), until);
+    body.split("match_keyword(\"").skip(1).map(|s| s[..s.find('"').unwrap()].to_string()).collect()
+}
+
+/// The words of a function's arms `"word" => self.NAME(`.
+fn arms(name: &str) -> Vec<String> {
+    let text = parser();
+    let body = between(&text, "fn parse_value_inst(", "\n    }\n");
+    let calls = format!("=> self.{name}(");
+    body.lines().filter(|l| l.contains(&calls)).flat_map(quoted).collect()
+}
+
+#[test]
+fn attributes() {
+    let text = parser();
+    assert_eq!(table("Attributes", "flagAttrs"), quoted(between(&text, "const FLAG_ATTRS", "];")));
+    assert_eq!(table("Attributes", "parenAttrs"), quoted(between(&text, "const PAREN_ATTRS", "];")));
+    assert_eq!(table("Attributes", "callingConventions"), quoted(between(&text, "const CCONVS", "];")));
+    assert_eq!(table("Attributes", "linkages"), matched("parse_linkage", "expected a linkage"));
+}
+
+#[test]
+fn flags() {
+    let text = parser();
+    assert_eq!(table("Attributes", "fastMathFlags"), quoted(between(&text, "const FLAGS", "];")));
+    assert_eq!(table("Attributes", "arithFlags"), matched("skip_arith_flags", "fn skip_fast_math_flags"));
+    assert_eq!(table("Attributes", "convFlags"), matched("parse_conv", "let from_ty"));
+    assert_eq!(table("Instructions", "orderings"), quoted(between(between(&text, "fn skip_atomic_ordering(", "Ok(())\n    }"), "for kw in [", "]")));
+}
+
+#[test]
+fn predicates() {
+    let text = parser();
+    assert_eq!(table("Instructions", "icmpPreds"), quoted(between(between(&text, "fn parse_icmp_pred(", "for (kw"), "let preds", "];")));
+    assert_eq!(table("Instructions", "fcmpPreds"), quoted(between(between(&text, "fn parse_fcmp_pred(", "for (kw"), "let preds", "];")));
+}
+
+#[test]
+fn operators() {
+    let text = parser();
+    assert_eq!(table("Values", "convOps"), quoted(between(between(&text, "fn match_conv_op(", "for (kw"), "const OPS", "];")));
+    assert_eq!(table("Values", "binOps"), quoted(between(between(&text, "fn match_bin_op(", "for (kw"), "const OPS", "];")));
+    assert_eq!(table("Values", "binOps"), arms("parse_bin"));
+    assert_eq!(table("Instructions", "fbinOps"), arms("parse_fbin"));
+    assert_eq!(table("Instructions", "instConvOps"), arms("parse_conv"));
+}
