@@ -2,7 +2,7 @@
 -- tail and at a refusal, and how far the code has come.
 -- Assumes nothing.
 use mathlib.Core.Path.{_≡_, refl, sym, ap, _∙_}
-use mathlib.Core.Bool.{Bool, true, false}
+use mathlib.Core.Bool.{true, false}
 use mathlib.Core.Option.{Option, none, some}
 use mathlib.Core.List.{List, [], _∷_, _++_}
 use Prim.Native.Nat.{ℕ, zero, suc, _+_, _-_, _*_, _≤_, _<_}
@@ -16,7 +16,7 @@ use borrow.Author.Tests.{lt-ltb, le-ltb}
 use Rattle.records.specs.Pieces.{HeadRead, head, badHead, BlockRead, block, tail, badBlock, Run, done, stop, item, mapRun, Source, fresh, size, before, Old, oldSizes, oldWords, Verdict, fine, refused, judge, joins, againIn, again, behindFront}
 use Rattle.records.specs.Law.{Grammar}
 use Rattle.directory.specs.Answers.{roomOf, afterRoom}
-use Rattle.directory.specs.Olds.{oldsOf, Chained, Passed, JoinsAt, JoinsNot, RoomFor}
+use Rattle.directory.specs.Olds.{oldsOf, Chained, Passed, JoinsAt, JoinsNot}
 use Rattle.directory.specs.Place.{fullThen, readThen, readSize, readWords, restLeft, Settled}
 use Rattle.directory.specs.declared.rooms.Room.the-variants.{Fits, Words, Entry}
 use Rattle.directory.proofs.Links.{olds-length, words-split, no-more}

@@ -3,14 +3,14 @@
 use mathlib.Core.Path.{_≡_, refl, sym, ap, _∙_}
 use mathlib.Core.Bool.{Bool, true, false}
 use mathlib.Core.List.{List, [], _∷_}
-use Prim.Native.Nat.{ℕ, zero, suc, _+_, _-_, _*_, _≤_, _<_}
+use Prim.Native.Nat.{ℕ, zero, suc, _+_, _-_, _≤_, _<_}
 use native.Mathlib.Nat.{add-zero, zero-add, add-suc, add-assoc}
 use native.Mathlib.Numerals.{add-one}
 use native.Mathlib.Omega.{arith}
-use lib.Bits.{bitOr, bitXor, bitAnd, xor-add-and, and-le-l, and-le-r}
+use lib.Bits.{bitOr, bitXor, xor-add-and, and-le-l, and-le-r}
 use lib.Dec.{eqb}
 use lib.ListN.{length, getD, take, drop, drop-of-length-le}
-use lib.Seq.{drop-cons, getD-drop}
+use lib.Seq.{getD-drop}
 use borrow.Author.Tests.{eq-eqb, ne-eqb, eqb-true}
 use Rattle.records.specs.Pieces.{common, commonEnd, endOf}
 use Rattle.directory.specs.Texts.{Same, Shares, endBehind, Ends}
@@ -171,6 +171,16 @@ common-take-left (x ∷ xs) (y ∷ ys) = go (eqb x y) refl (common-take-left xs 
   where
     go : (b : Bool) → eqb x y ≡ b → take (length (common xs ys)) xs ≡ common xs ys → take (length (common (x ∷ xs) (y ∷ ys))) (x ∷ xs) ≡ common (x ∷ xs) (y ∷ ys)
     go true t ih = rw (common, t) (ap {B = List ℕ} (λ r. x ∷ r) ih)
+    go false t ih = rw (common, t)
+
+pub common-take-right : (xs ys : List ℕ) → take (length (common xs ys)) ys ≡ common xs ys
+unfolding common
+common-take-right [] ys = refl
+common-take-right (x ∷ xs) [] = refl
+common-take-right (x ∷ xs) (y ∷ ys) = go (eqb x y) refl (common-take-right xs ys)
+  where
+    go : (b : Bool) → eqb x y ≡ b → take (length (common xs ys)) ys ≡ common xs ys → take (length (common (x ∷ xs) (y ∷ ys))) (y ∷ ys) ≡ common (x ∷ xs) (y ∷ ys)
+    go true t ih = let q : y ≡ x = sym (eqb-true x y t) in rw (common, t) (rw q (ap {B = List ℕ} (λ r. x ∷ r) ih))
     go false t ih = rw (common, t)
 
 -- neither is longer than what remains

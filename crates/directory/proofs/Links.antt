@@ -1,18 +1,17 @@
 -- What question 22 grants, and the pieces that a directory names, one by one.
 -- Assumes nothing.
-use mathlib.Core.Path.{_≡_, refl, sym, ap, _∙_, subst}
+use mathlib.Core.Path.{_≡_, refl, sym, ap, _∙_}
 use mathlib.Core.Bool.{Bool, true, false, _&&_}
 use mathlib.Core.Option.{Option, none, some}
 use mathlib.Core.List.{List, [], _∷_}
 use Prim.Native.Nat.{ℕ, zero, suc, _+_, _-_, _*_, _/_, _%_, _≤_, _<_}
 use native.Mathlib.Nat.{add-zero, zero-add, add-assoc}
-use native.Mathlib.Numerals.{add-one}
 use native.Mathlib.Omega.{arith}
 use lib.Dec.{leb, eqb}
 use lib.ListN.{length, take, drop, getD, drop-of-length-le}
-use borrow.Author.Tests.{leb-true, eqb-true, lt-leb}
+use borrow.Author.Tests.{leb-true, eqb-true}
 use Rattle.records.specs.Pieces.{Old, old, chain, consOld, olds, oldSizes, oldWords}
-use Rattle.directory.specs.Olds.{answers, oldsOf, Joined, Chained}
+use Rattle.directory.specs.Olds.{answers, oldsOf, Chained}
 
 -- ---- sums over pieces
 pub sizes-split : (j : ℕ) (os : List Old) → oldSizes os ≡ oldSizes (take j os) + oldSizes (drop j os)

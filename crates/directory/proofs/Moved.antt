@@ -3,7 +3,7 @@
 use mathlib.Core.Path.{_≡_, refl, sym, ap, _∙_}
 use mathlib.Core.List.{List, [], _∷_, _++_, append-assoc}
 use Prim.Native.Nat.{ℕ, zero, suc, _+_, _-_, _*_, _/_, _%_, _≤_, _<_}
-use native.Mathlib.Nat.{add-zero, zero-add, add-assoc}
+use native.Mathlib.Nat.{add-zero, add-assoc}
 use native.Mathlib.Numerals.{add-one}
 use native.Mathlib.Omega.{arith}
 use lib.ListN.{length, take, drop, getD, set, length-set, length-append, length-drop, take-append-drop}
@@ -11,8 +11,7 @@ use lib.Seq.{length-take-le, sets-eq, getD-drop, getD-append-add, paste, take-at
 use Rattle.records.specs.Words.{pack}
 use Rattle.records.specs.Pieces.{Old, old, oldSizes, oldWords}
 use Rattle.directory.specs.Olds.{oldsOf, moved}
-use Rattle.directory.proofs.Links.{sizeAt, firstAt, countAt, olds-next, olds-take, olds-drop, olds-length, sizes-step, words-step, sizes-split, words-split}
-use Rattle.directory.proofs.Chain.{drop-entry}
+use Rattle.directory.proofs.Links.{sizeAt, firstAt, countAt, olds-next, olds-take, olds-drop, sizes-step, words-step, sizes-split, words-split}
 
 twice : (j : ℕ) → suc j * 2 ≡ suc (suc (j * 2))
 twice j = omega arith

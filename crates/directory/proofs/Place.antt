@@ -1,24 +1,20 @@
 -- What a reading leaves, told for code that works in place: what is kept in front stays where it is, what was read stands behind it, and
 -- what is kept behind has moved as one stretch.
 -- Assumes nothing.
-use mathlib.Core.Path.{_≡_, refl, sym, ap, _∙_, subst}
-use mathlib.Core.Bool.{Bool, true, false}
-use mathlib.Core.Option.{Option, none, some}
+use mathlib.Core.Path.{_≡_, refl, sym, ap, _∙_}
 use mathlib.Core.List.{List, [], _∷_, _++_, append-nil, append-assoc}
 use Prim.Native.Nat.{ℕ, zero, suc, _+_, _-_, _*_, _/_, _%_, _≤_, _<_}
-use native.Mathlib.Nat.{add-zero, zero-add, add-assoc, add-suc, sub-zero, div-add-mod'}
+use native.Mathlib.Nat.{add-zero, zero-add, add-assoc, div-add-mod'}
 use native.Mathlib.Omega.{arith}
-use lib.Dec.{leb, ltb, eqb}
-use lib.ListN.{length, getD, take, drop, set, replicate, length-append, length-drop, length-take, drop-of-length-le}
-use lib.Seq.{drop-drop, take-add, length-take-le, take-at, drop-at, paste, length-paste}
-use borrow.Author.Tests.{le-leb}
+use lib.ListN.{length, getD, take, drop, length-append, length-drop, drop-of-length-le}
+use lib.Seq.{drop-drop, take-add, length-take-le}
 use Rattle.records.specs.Words.{pack}
-use Rattle.records.specs.Pieces.{Run, done, stop, item, mapRun, Source, fresh, kept, size, wordsOf, isFresh, sumRun, before, Old, old, oldSizes, oldWords, allWords, entries, countRun, pad, Verdict, fine, refused, Answer, no-at, count, Left, left, leave, Again, again-left, leaveAgain, joins, fromBlocks}
-use Rattle.directory.specs.Olds.{oldsOf, moved, Joined, Chained, FoundAt, FoundNot}
+use Rattle.records.specs.Pieces.{Run, done, item, mapRun, Source, fresh, wordsOf, isFresh, sumRun, before, Old, old, oldSizes, oldWords, allWords, entries, countRun, pad, fine, refused, no-at, count, left, leave, again-left, leaveAgain}
+use Rattle.directory.specs.Olds.{oldsOf, moved, Joined, Chained}
 use Rattle.directory.specs.Place.{fullThen, readThen, readSize, readWords, readEntries, restLeft, wordsLeft, entriesLeft}
 use Rattle.directory.proofs.Chain.{drop-entry}
-use Rattle.directory.proofs.Moved.{moved-more, moved-length, entry-put}
-use Rattle.directory.proofs.Links.{sizeAt, firstAt, countAt, olds-next, olds-take, olds-length, olds-drop, words-step, sizes-step, sizes-split, words-split}
+use Rattle.directory.proofs.Moved.{moved-more}
+use Rattle.directory.proofs.Links.{sizeAt, firstAt, countAt, olds-next, olds-take, olds-length, olds-drop, words-step, words-split}
 
 -- ---- pieces that were read
 pub full-map : (ws : List ℕ) (fs : List (ℕ × List ℕ)) (r : Run Source) → mapRun (wordsOf ws) (readThen fs r) ≡ fullThen fs (mapRun (wordsOf ws) r)

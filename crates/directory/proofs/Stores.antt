@@ -1,13 +1,13 @@
 -- Stores into a list, one element at a time.
 -- Assumes nothing.
-use mathlib.Core.Path.{_≡_, refl, sym, ap, _∙_}
+use mathlib.Core.Path.{_≡_, sym, ap, _∙_}
 use mathlib.Core.List.{List, [], _∷_, _++_, append-assoc, append-nil}
-use Prim.Native.Nat.{ℕ, zero, suc, _+_, _-_, _*_, _≤_, _<_}
+use Prim.Native.Nat.{ℕ, suc, _+_, _-_, _≤_, _<_}
 use native.Mathlib.Numerals.{add-one}
 use native.Mathlib.Nat.{add-zero, sub-zero}
 use native.Mathlib.Omega.{arith}
-use lib.ListN.{length, getD, take, drop, set, replicate, length-append, length-take, length-replicate, drop-of-length-le, replicate-append-replicate, take-append-drop, length-drop, List·getD-append}
-use lib.Seq.{drop-cons, set-at, append-snoc, length-take-le, paste, paste-suc, length-paste-head, getD-append-add, getD-drop, getD-take, take-suc, take-add, drop-drop}
+use lib.ListN.{length, getD, take, drop, set, replicate, length-append, length-replicate, drop-of-length-le, replicate-append-replicate, take-append-drop, length-drop, List·getD-append}
+use lib.Seq.{drop-cons, set-at, append-snoc, length-take-le, paste, paste-suc, length-paste-head, getD-append-add, getD-drop, getD-take, take-suc, take-add}
 
 -- ---- zeros from `from` up to i
 abbrev pub zeros : List ℕ → (from i : ℕ) → List ℕ

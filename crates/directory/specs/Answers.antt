@@ -1,8 +1,8 @@
 -- What the cases of each answer mean in the definitions.
 -- Assumes nothing.
 use mathlib.Core.List.{List}
-use mathlib.Core.Bool.{Bool, true, false, _&&_}
-use Prim.Native.Nat.{ℕ, suc, _+_, _*_}
+use mathlib.Core.Bool.{true, false, _&&_}
+use Prim.Native.Nat.{ℕ, _+_, _*_}
 use lib.Dec.{leb, ltb}
 use Rattle.records.specs.Pieces.{fine, refused, Old}
 use Rattle.records.specs.Pieces as pieces

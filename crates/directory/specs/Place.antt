@@ -5,7 +5,7 @@ use mathlib.Core.List.{List, [], _∷_, _++_}
 use Prim.Native.Nat.{ℕ, zero, suc, _+_, _-_, _*_, _≤_}
 use lib.ListN.{length, take, drop}
 use Rattle.records.specs.Words.{pack}
-use Rattle.records.specs.Pieces.{HeadRead, head, badHead, BlockRead, block, tail, badBlock, Run, done, item, Source, fresh, before, Old, oldSizes, oldWords, Verdict, fine}
+use Rattle.records.specs.Pieces.{HeadRead, head, badHead, BlockRead, block, tail, badBlock, Run, done, item, Source, fresh, before, oldSizes, oldWords, Verdict, fine}
 use Rattle.directory.specs.Olds.{oldsOf, moved, RoomFor}
 
 -- in front of a full reading's run

@@ -6,8 +6,6 @@ use Rattle.directory.proofs.Stores.{zeros, zeros-none, zeros-more, zero
 use borrow.Author.Needs.{needs}
 use Rattle.directory.proofs.arrays.clear.Statement.{statement}
 use Rattle.directory.proofs.arrays.clear.Tie as tie
-use Rattle.directory.proofs.arrays.clear.Reads as reads
-use Rattle.directory.proofs.arrays.clear.Lts as lts
 
 abbrev Inv-loop : tie.InvT-loop
 Inv-loop words₀ from i₀ words i = (from ≤ i) × (i - from ≤ length words₀ - from) × (length words ≡ length words₀) × (words ≡ zeros words₀ from i)
@@ -15,27 +13,21 @@ Inv-loop words₀ from i₀ words i = (from ≤ i) × (i - from ≤ length words
 abbrev μ-loop : tie.MeasureT-loop
 μ-loop words₀ from i₀ words i = length words₀ - i
 
--- src/arrays.rt:13:5
 loop-holds : tie.Need-loop-holds Inv-loop μ-loop
 loop-holds c = (omega arith, omega arith, refl, zeros-none (c .args .words .now) (c .args .from))
 
--- src/arrays.rt:14:9
 mul-words : tie.Need-mul-words Inv-loop μ-loop
 mul-words c = search needs
 
--- src/arrays.rt:14:9
 slice-write-words : tie.Need-slice-write-words Inv-loop μ-loop
 slice-write-words c = search needs
 
--- src/arrays.rt:15:9
 add-i : tie.Need-add-i Inv-loop μ-loop
 add-i c = search needs
 
--- src/arrays.rt:13:5
 loop-less : tie.Need-loop-less Inv-loop μ-loop
 loop-less c = search needs
 
--- src/arrays.rt:13:5
 loop-again : tie.Need-loop-again Inv-loop μ-loop
 loop-again c = (
   omega arith,
@@ -44,11 +36,9 @@ loop-again c = (
   rw (c .before .loop .inv .3) (zeros-more (c .before .before .args .words .now) (c .before .before .args .from) (c .before .loop .i) (omega arith) (omega arith)),
 )
 
--- src/arrays.rt:9:1
 same-length : tie.Need-same-length Inv-loop μ-loop
 same-length c = c .before .loop .inv .2
 
--- src/arrays.rt:9:1
 returns : tie.Need-returns Inv-loop μ-loop
 returns c = c .before .loop .inv .3 ∙ zeros-all (c .before .before .args .words .now) (c .before .before .args .from) (c .before .loop .i) (omega arith) (omega arith)
 

@@ -7,8 +7,6 @@ use Rattle.directory.proofs.Stores.{left-more}
 use borrow.Author.Needs.{needs}
 use Rattle.directory.proofs.arrays.move_left.Statement.{statement}
 use Rattle.directory.proofs.arrays.move_left.Tie as tie
-use Rattle.directory.proofs.arrays.move_left.Reads as reads
-use Rattle.directory.proofs.arrays.move_left.Lts as lts
 
 abbrev Inv-loop : tie.InvT-loop
 Inv-loop words₀ from to n i₀ words i = (i ≤ n) × (words ≡ paste words₀ to (drop from words₀) i) × (length words ≡ length words₀)
@@ -16,43 +14,33 @@ Inv-loop words₀ from to n i₀ words i = (i ≤ n) × (words ≡ paste words�
 abbrev μ-loop : tie.MeasureT-loop
 μ-loop words₀ from to n i₀ words i = n - i
 
--- src/arrays.rt:38:5
 loop-holds : tie.Need-loop-holds Inv-loop μ-loop
 loop-holds c = (omega arith, paste-zero (c .args .words .now) (c .args .to) (drop (c .args .from) (c .args .words .now)), refl)
 
--- src/arrays.rt:39:23
 add-w : tie.Need-add-w Inv-loop μ-loop
 add-w c = search needs
 
--- src/arrays.rt:39:17
 mul-w : tie.Need-mul-w Inv-loop μ-loop
 mul-w c = search needs
 
--- src/arrays.rt:39:17
 slice-read-w : tie.Need-slice-read-w Inv-loop μ-loop
 slice-read-w c = search needs
 
--- src/arrays.rt:40:15
 add-words : tie.Need-add-words Inv-loop μ-loop
 add-words c = search needs
 
--- src/arrays.rt:40:9
 mul-words : tie.Need-mul-words Inv-loop μ-loop
 mul-words c = search needs
 
--- src/arrays.rt:40:9
 slice-write-words : tie.Need-slice-write-words Inv-loop μ-loop
 slice-write-words c = search needs
 
--- src/arrays.rt:41:9
 add-i : tie.Need-add-i Inv-loop μ-loop
 add-i c = search needs
 
--- src/arrays.rt:38:5
 loop-less : tie.Need-loop-less Inv-loop μ-loop
 loop-less c = search needs
 
--- src/arrays.rt:38:5
 loop-again : tie.Need-loop-again Inv-loop μ-loop
 loop-again c = (
   omega arith,
@@ -60,11 +48,9 @@ loop-again c = (
   length-set (c .before .before .loop .words) (c .before .before .before .args .to + c .before .before .loop .i) (getD (c .before .before .loop .words) (c .before .before .before .args .from + c .before .before .loop .i) 0) ∙ c .before .before .loop .inv .2,
 )
 
--- src/arrays.rt:33:1
 same-length : tie.Need-same-length Inv-loop μ-loop
 same-length c = c .before .loop .inv .2
 
--- src/arrays.rt:33:1
 returns : tie.Need-returns Inv-loop μ-loop
 returns c = let e : c .before .loop .i ≡ c .before .before .args .n = omega arith in rw (← e) (c .before .loop .inv .1)
 

@@ -6,8 +6,6 @@ use Rattle.directory.proofs.Stores.{right, right-first, right-last, rig
 use borrow.Author.Needs.{needs}
 use Rattle.directory.proofs.arrays.move_right.Statement.{statement}
 use Rattle.directory.proofs.arrays.move_right.Tie as tie
-use Rattle.directory.proofs.arrays.move_right.Reads as reads
-use Rattle.directory.proofs.arrays.move_right.Lts as lts
 
 abbrev Inv-loop : tie.InvT-loop
 Inv-loop words₀ from to n i₀ words i = (i ≤ n) × (words ≡ right words₀ from to n i) × (length words ≡ length words₀)
@@ -15,43 +13,33 @@ Inv-loop words₀ from to n i₀ words i = (i ≤ n) × (words ≡ right words�
 abbrev μ-loop : tie.MeasureT-loop
 μ-loop words₀ from to n i₀ words i = i
 
--- src/arrays.rt:51:5
 loop-holds : tie.Need-loop-holds Inv-loop μ-loop
 loop-holds c = (omega arith, right-first (c .args .words .now) (c .args .from) (c .args .to) (c .args .n), refl)
 
--- src/arrays.rt:52:9
 sub-i : tie.Need-sub-i Inv-loop μ-loop
 sub-i c = search needs
 
--- src/arrays.rt:53:23
 add-w : tie.Need-add-w Inv-loop μ-loop
 add-w c = search needs
 
--- src/arrays.rt:53:17
 mul-w : tie.Need-mul-w Inv-loop μ-loop
 mul-w c = search needs
 
--- src/arrays.rt:53:17
 slice-read-w : tie.Need-slice-read-w Inv-loop μ-loop
 slice-read-w c = search needs
 
--- src/arrays.rt:54:15
 add-words : tie.Need-add-words Inv-loop μ-loop
 add-words c = search needs
 
--- src/arrays.rt:54:9
 mul-words : tie.Need-mul-words Inv-loop μ-loop
 mul-words c = search needs
 
--- src/arrays.rt:54:9
 slice-write-words : tie.Need-slice-write-words Inv-loop μ-loop
 slice-write-words c = search needs
 
--- src/arrays.rt:51:5
 loop-less : tie.Need-loop-less Inv-loop μ-loop
 loop-less c = search needs
 
--- src/arrays.rt:51:5
 loop-again : tie.Need-loop-again Inv-loop μ-loop
 loop-again c = let e : c .before .before .loop .i ≡ (c .before .before .loop .i - 1) + 1 = omega arith in
     let w : c .before .before .loop .words ≡ right (c .before .before .before .args .words .now) (c .before .before .before .args .from) (c .before .before .before .args .to) (c .before .before .before .args .n) ((c .before .before .loop .i - 1) + 1) = c .before .before .loop .inv .1 ∙ ap (λ (k : ℕ). right (c .before .before .before .args .words .now) (c .before .before .before .args .from) (c .before .before .before .args .to) (c .before .before .before .args .n) k) e in (
@@ -60,11 +48,9 @@ loop-again c = let e : c .before .before .loop .i ≡ (c .before .before .loop .
       length-set (c .before .before .loop .words) (c .before .before .before .args .to + (c .before .before .loop .i - 1)) (getD (c .before .before .loop .words) (c .before .before .before .args .from + (c .before .before .loop .i - 1)) 0) ∙ c .before .before .loop .inv .2,
     )
 
--- src/arrays.rt:46:1
 same-length : tie.Need-same-length Inv-loop μ-loop
 same-length c = c .before .loop .inv .2
 
--- src/arrays.rt:46:1
 returns : tie.Need-returns Inv-loop μ-loop
 returns c = let e : c .before .loop .i ≡ 0 = omega arith in
     c .before .loop .inv .1 ∙ ap (λ (k : ℕ). right (c .before .before .args .words .now) (c .before .before .args .from) (c .before .before .args .to) (c .before .before .args .n) k) e ∙ right-last (c .before .before .args .words .now) (c .before .before .args .from) (c .before .before .args .to) (c .before .before .args .n)

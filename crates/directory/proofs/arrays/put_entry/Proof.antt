@@ -5,58 +5,43 @@ use Rattle.records.specs.Words.{pack}
 use borrow.Author.Needs.{needs}
 use Rattle.directory.proofs.arrays.put_entry.Statement.{statement}
 use Rattle.directory.proofs.arrays.put_entry.Tie as tie
-use Rattle.directory.proofs.arrays.put_entry.Reads as reads
-use Rattle.directory.proofs.arrays.put_entry.Lts as lts
 
--- src/arrays.rt:25:25
 mul-directory : tie.Need-mul-directory
 mul-directory c = search needs
 
--- src/arrays.rt:25:25
 add-directory : tie.Need-add-directory
 add-directory c = search needs
 
--- src/arrays.rt:25:15
 mul-directory-2 : tie.Need-mul-directory-2
 mul-directory-2 c = search needs
 
--- src/arrays.rt:25:5
 mul-directory-3 : tie.Need-mul-directory-3
 mul-directory-3 c = search needs
 
--- src/arrays.rt:25:5
 slice-write-directory : tie.Need-slice-write-directory
 slice-write-directory c = search needs
 
--- src/arrays.rt:26:29
 mul-directory-4 : tie.Need-mul-directory-4
 mul-directory-4 c = search needs
 
--- src/arrays.rt:26:29
 add-directory-2 : tie.Need-add-directory-2
 add-directory-2 c = search needs
 
--- src/arrays.rt:26:15
 mul-directory-5 : tie.Need-mul-directory-5
 mul-directory-5 c = search needs
 
--- src/arrays.rt:26:15
 add-directory-3 : tie.Need-add-directory-3
 add-directory-3 c = search needs
 
--- src/arrays.rt:26:5
 mul-directory-6 : tie.Need-mul-directory-6
 mul-directory-6 c = search needs
 
--- src/arrays.rt:26:5
 slice-write-directory-2 : tie.Need-slice-write-directory-2
 slice-write-directory-2 c = simp length-set (omega arith)
 
--- src/arrays.rt:20:1
 same-length : tie.Need-same-length
 same-length c = search needs
 
--- src/arrays.rt:20:1
 returns : tie.Need-returns
 unfolding pack
 returns c = refl

@@ -5,9 +5,6 @@ use Rattle.directory.proofs.Moved.{Renumbering, renumber-first, place-e
 use borrow.Author.Needs.{needs}
 use Rattle.directory.proofs.arrays.renumber.Statement.{statement}
 use Rattle.directory.proofs.arrays.renumber.Tie as tie
-use Rattle.directory.proofs.arrays.renumber.Reads as reads
-use Rattle.directory.proofs.arrays.renumber.Lts as lts
-use Rattle.directory.proofs.arrays.put_entry.Reads as put-entry-reads
 
 abbrev Inv-loop : tie.InvT-loop
 Inv-loop directory₀ i n pos at k₀ place₀ first₀ directory k place first = Renumbering directory₀ i n pos at k place first directory
@@ -15,79 +12,60 @@ Inv-loop directory₀ i n pos at k₀ place₀ first₀ directory k place first 
 abbrev μ-loop : tie.MeasureT-loop
 μ-loop directory₀ i n pos at k₀ place₀ first₀ directory k place first = n - k
 
--- src/arrays.rt:82:5
 loop-holds : tie.Need-loop-holds Inv-loop μ-loop
 loop-holds c = renumber-first (c .before .args .directory .now) (c .before .args .i) (c .before .args .n) (c .before .args .pos) (c .before .args .at)
 
--- src/arrays.rt:83:29
 add-e : tie.Need-add-e Inv-loop μ-loop
 add-e c = search needs
 
--- src/arrays.rt:83:28
 mul-e : tie.Need-mul-e Inv-loop μ-loop
 mul-e c = search needs
 
--- src/arrays.rt:83:18
 mul-e-2 : tie.Need-mul-e-2 Inv-loop μ-loop
 mul-e-2 c = search needs
 
--- src/arrays.rt:83:18
 slice-read-e : tie.Need-slice-read-e Inv-loop μ-loop
 slice-read-e c = search needs
 
--- src/arrays.rt:84:29
 add-m : tie.Need-add-m Inv-loop μ-loop
 add-m c = search needs
 
--- src/arrays.rt:84:28
 mul-m : tie.Need-mul-m Inv-loop μ-loop
 mul-m c = search needs
 
--- src/arrays.rt:84:28
 add-m-2 : tie.Need-add-m-2 Inv-loop μ-loop
 add-m-2 c = search needs
 
--- src/arrays.rt:84:18
 mul-m-2 : tie.Need-mul-m-2 Inv-loop μ-loop
 mul-m-2 c = search needs
 
--- src/arrays.rt:84:18
 slice-read-m : tie.Need-slice-read-m Inv-loop μ-loop
 slice-read-m c = search needs
 
--- src/arrays.rt:85:30
 add-put-entry : tie.Need-add-put-entry Inv-loop μ-loop
 add-put-entry c = search needs
 
--- src/arrays.rt:85:9
 put-entry-requires : tie.Need-put-entry-requires Inv-loop μ-loop
 put-entry-requires c κs = (omega (arith, c .before .before .before .before .loop .inv .long), (omega (arith, place-ends (c .before .before .before .before .before .before .args .directory .now) (c .before .before .before .before .before .before .args .i) (c .before .before .before .before .before .before .args .n) (c .before .before .before .before .before .before .args .pos) (c .before .before .before .before .before .before .args .at) (c .before .before .before .before .before .before .pre .0) (c .before .before .before .before .loop .k) (c .before .before .before .before .loop .place) (c .before .before .before .before .loop .first) (c .before .before .before .before .loop .directory) (c .before .before .before .before .loop .inv) (c .before .before .before .loop-test .taken)), omega arith, omega (arith, first-ends (c .before .before .before .before .before .before .args .directory .now) (c .before .before .before .before .before .before .args .i) (c .before .before .before .before .before .before .args .n) (c .before .before .before .before .before .before .args .pos) (c .before .before .before .before .before .before .args .at) (c .before .before .before .before .before .before .pre .0) (c .before .before .before .before .loop .k) (c .before .before .before .before .loop .place) (c .before .before .before .before .loop .first) (c .before .before .before .before .loop .directory) (c .before .before .before .before .loop .inv) (c .before .before .before .loop-test .taken)), omega arith))
 
--- src/arrays.rt:86:9
 add-place : tie.Need-add-place Inv-loop μ-loop
 add-place c = omega (arith, place-ends (c .before .before .before .before .before .before .before .before .before .args .directory .now) (c .before .before .before .before .before .before .before .before .before .args .i) (c .before .before .before .before .before .before .before .before .before .args .n) (c .before .before .before .before .before .before .before .before .before .args .pos) (c .before .before .before .before .before .before .before .before .before .args .at) (c .before .before .before .before .before .before .before .before .before .pre .0) (c .before .before .before .before .before .before .before .loop .k) (c .before .before .before .before .before .before .before .loop .place) (c .before .before .before .before .before .before .before .loop .first) (c .before .before .before .before .before .before .before .loop .directory) (c .before .before .before .before .before .before .before .loop .inv) (c .before .before .before .before .before .before .loop-test .taken))
 
--- src/arrays.rt:87:9
 add-first : tie.Need-add-first Inv-loop μ-loop
 add-first c = omega (arith, first-ends (c .before .before .before .before .before .before .before .before .before .args .directory .now) (c .before .before .before .before .before .before .before .before .before .args .i) (c .before .before .before .before .before .before .before .before .before .args .n) (c .before .before .before .before .before .before .before .before .before .args .pos) (c .before .before .before .before .before .before .before .before .before .args .at) (c .before .before .before .before .before .before .before .before .before .pre .0) (c .before .before .before .before .before .before .before .loop .k) (c .before .before .before .before .before .before .before .loop .place) (c .before .before .before .before .before .before .before .loop .first) (c .before .before .before .before .before .before .before .loop .directory) (c .before .before .before .before .before .before .before .loop .inv) (c .before .before .before .before .before .before .loop-test .taken))
 
--- src/arrays.rt:88:9
 add-k : tie.Need-add-k Inv-loop μ-loop
 add-k c = search needs
 
--- src/arrays.rt:82:5
 loop-less : tie.Need-loop-less Inv-loop μ-loop
 loop-less c = search needs
 
--- src/arrays.rt:82:5
 loop-again : tie.Need-loop-again Inv-loop μ-loop
 loop-again c = renumber-next (c .before .before .before .before .before .before .before .before .before .args .directory .now) (c .before .before .before .before .before .before .before .before .before .args .i) (c .before .before .before .before .before .before .before .before .before .args .n) (c .before .before .before .before .before .before .before .before .before .args .pos) (c .before .before .before .before .before .before .before .before .before .args .at) (c .before .before .before .before .before .before .before .before .before .pre .0) (c .before .before .before .before .before .before .before .loop .k) (c .before .before .before .before .before .before .before .loop .place) (c .before .before .before .before .before .before .before .loop .first) (c .before .before .before .before .before .before .before .loop .directory) (c .before .before .before .before .before .before .before .loop .inv) (c .before .before .before .before .before .before .loop-test .taken) (c .before .before .put-entry .last .0) (c .before .before .put-entry .ensures)
 
--- src/arrays.rt:74:1
 same-length : tie.Need-same-length Inv-loop μ-loop
 same-length c = c .before .loop .inv .long
 
--- src/arrays.rt:74:1
 returns : tie.Need-returns Inv-loop μ-loop
 returns c = let e : c .before .loop .k ≡ c .before .before .before .args .n = omega arith in rw (← e) (c .before .loop .inv .list)
 

@@ -8,9 +8,6 @@ use Rattle.directory.proofs.Front.{Spelling, spelling-short, spelling-f
 use borrow.Author.Needs.{needs}
 use Rattle.directory.proofs.kept.addrspace_at.Statement.{statement}
 use Rattle.directory.proofs.kept.addrspace_at.Tie as tie
-use Rattle.directory.proofs.kept.addrspace_at.Reads as reads
-use Rattle.directory.proofs.kept.addrspace_at.Lts as lts
-use Rattle.directory.proofs.kept.is_word.Reads as is-word-reads
 
 abbrev Inv-loop : tie.InvT-loop
 Inv-loop text a p word k₀ k = (h : a ≤ length text) → (l : p ≤ a) → Spelling text a h p l k
@@ -18,65 +15,50 @@ Inv-loop text a p word k₀ k = (h : a ≤ length text) → (l : p ≤ a) → Sp
 abbrev μ-loop : tie.MeasureT-loop
 μ-loop text a p word k₀ k = 9 - k
 
--- src/kept.rt:96:8
 sub-if1 : tie.Need-sub-if1 Inv-loop μ-loop
 sub-if1 c = search needs
 
--- src/kept.rt:97:9
 returns : tie.Need-returns Inv-loop μ-loop
 returns c = spelling-short (c .before .before .args .text .now) (c .before .before .args .a) (omega arith) (c .before .before .args .p) (omega arith) (c .if1 .taken)
 
--- src/kept.rt:101:5
 loop-holds : tie.Need-loop-holds Inv-loop μ-loop
 loop-holds c = λ h l. spelling-first (c .before .before .before .args .text .now) (c .before .before .before .args .a) h (c .before .before .before .args .p) l (c .before .if1 .left)
 
--- src/kept.rt:102:17
 add-if2 : tie.Need-add-if2 Inv-loop μ-loop
 add-if2 c = search needs
 
--- src/kept.rt:102:12
 shared-slice-read-if2 : tie.Need-shared-slice-read-if2 Inv-loop μ-loop
 shared-slice-read-if2 c = search needs
 
--- src/kept.rt:102:27
 element-copy-out-if2 : tie.Need-element-copy-out-if2 Inv-loop μ-loop
 element-copy-out-if2 c = search needs
 
--- src/kept.rt:103:13
 returns-2 : tie.Need-returns-2 Inv-loop μ-loop
 unfolding addrspace
 returns-2 c = spelling-other (c .before .before .before .before .before .before .before .before .args .text .now) (c .before .before .before .before .before .before .before .before .args .a) (omega arith) (c .before .before .before .before .before .before .before .before .args .p) (omega arith) (c .before .before .before .before .loop .k) (c .before .before .before .before .loop .inv (omega arith) (omega arith)) (c .before .before .before .loop-test .taken) (c .if2 .taken)
 
--- src/kept.rt:105:9
 add-k : tie.Need-add-k Inv-loop μ-loop
 add-k c = search needs
 
--- src/kept.rt:101:5
 loop-less : tie.Need-loop-less Inv-loop μ-loop
 loop-less c = search needs
 
--- src/kept.rt:101:5
 loop-again : tie.Need-loop-again Inv-loop μ-loop
 unfolding addrspace
 loop-again c = λ h l. spelling-more (c .before .before .before .before .before .before .before .before .args .text .now) (c .before .before .before .before .before .before .before .before .args .a) h (c .before .before .before .before .before .before .before .before .args .p) l (c .before .before .before .before .loop .k) (c .before .before .before .before .loop .inv h l) (c .before .before .before .loop-test .taken) (c .if2 .left)
 
--- src/kept.rt:107:21
 add-is-word : tie.Need-add-is-word Inv-loop μ-loop
 add-is-word c = search needs
 
--- src/kept.rt:107:16
 shared-slice-read-is-word : tie.Need-shared-slice-read-is-word Inv-loop μ-loop
 shared-slice-read-is-word c = search needs
 
--- src/kept.rt:107:8
 is-word-requires : tie.Need-is-word-requires Inv-loop μ-loop
 is-word-requires c κs = search needs
 
--- src/kept.rt:108:9
 returns-3 : tie.Need-returns-3 Inv-loop μ-loop
 returns-3 c = sym (spelling-end (c .before .before .before .before .before .before .before .before .args .text .now) (c .before .before .before .before .before .before .before .before .args .a) (omega arith) (c .before .before .before .before .before .before .before .before .args .p) (omega arith) (c .before .before .before .before .loop .k) (c .before .before .before .before .loop .inv (omega arith) (omega arith)) (c .before .before .before .loop-test .left) ∙ ap not (sym (c .before .is-word .ensures) ∙ c .if3 .taken))
 
--- src/kept.rt:92:1
 returns-4 : tie.Need-returns-4 Inv-loop μ-loop
 returns-4 c = sym (spelling-end (c .before .before .before .before .before .before .before .before .args .text .now) (c .before .before .before .before .before .before .before .before .args .a) (omega arith) (c .before .before .before .before .before .before .before .before .args .p) (omega arith) (c .before .before .before .before .loop .k) (c .before .before .before .before .loop .inv (omega arith) (omega arith)) (c .before .before .before .loop-test .left) ∙ ap not (sym (c .before .is-word .ensures) ∙ c .if3 .left))
 

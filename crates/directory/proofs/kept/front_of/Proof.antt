@@ -5,58 +5,43 @@ use Rattle.directory.proofs.Front.{end-size, end-words, no-size, no-wor
 use borrow.Author.Needs.{needs}
 use Rattle.directory.proofs.kept.front_of.Statement.{statement}
 use Rattle.directory.proofs.kept.front_of.Tie as tie
-use Rattle.directory.proofs.kept.front_of.Reads as reads
-use Rattle.directory.proofs.kept.front_of.Lts as lts
 
--- src/kept.rt:22:9
 returns : tie.Need-returns
 returns c = (sym (c .if1 .taken), rw (c .if1 .taken) (no-size (c .before .args .directory .now)), rw (c .if1 .taken) (no-words (c .before .args .directory .now)))
 
--- src/kept.rt:28:24
 sub-x : tie.Need-sub-x
 sub-x c = search needs
 
--- src/kept.rt:28:23
 mul-x : tie.Need-mul-x
 mul-x c = search needs
 
--- src/kept.rt:28:13
 mul-x-2 : tie.Need-mul-x-2
 mul-x-2 c = search needs
 
--- src/kept.rt:28:13
 shared-slice-read-x : tie.Need-shared-slice-read-x
 shared-slice-read-x c = search needs
 
--- src/kept.rt:29:24
 sub-y : tie.Need-sub-y
 sub-y c = search needs
 
--- src/kept.rt:29:23
 mul-y : tie.Need-mul-y
 mul-y c = search needs
 
--- src/kept.rt:29:23
 add-y : tie.Need-add-y
 add-y c = search needs
 
--- src/kept.rt:29:13
 mul-y-2 : tie.Need-mul-y-2
 mul-y-2 c = search needs
 
--- src/kept.rt:29:13
 shared-slice-read-y : tie.Need-shared-slice-read-y
 shared-slice-read-y c = search needs
 
--- src/kept.rt:32:14
 add-t11 : tie.Need-add-t11
 add-t11 c = omega (arith, c .before .shared-slice-known .given ((c .before .before .before .args .count - 1) * 2))
 
--- src/kept.rt:33:13
 add-t14 : tie.Need-add-t14
 add-t14 c = omega (arith, c .before .shared-slice-known .given ((c .before .before .before .args .count - 1) * 2 + 1))
 
--- src/kept.rt:17:1
 returns-2 : tie.Need-returns-2
 returns-2 c = (refl, end-size (c .before .before .before .args .count) (c .before .before .before .args .directory .now) (omega arith) (c .before .before .before .pre), end-words (c .before .before .before .args .count) (c .before .before .before .args .directory .now) (omega arith) (c .before .before .before .pre))
 

@@ -2,42 +2,31 @@ use native.Mathlib.Omega.{arith}
 use Rattle.directory.proofs.Word.{low, digit, colon, capital, bracket, underscore, quote, small, high}
 use Rattle.directory.proofs.kept.is_word.Statement.{statement}
 use Rattle.directory.proofs.kept.is_word.Tie as tie
-use Rattle.directory.proofs.kept.is_word.Reads as reads
-use Rattle.directory.proofs.kept.is_word.Lts as lts
 
--- src/kept.rt:42:9
 returns : tie.Need-returns
 returns c = low (c .before .args .b) (c .if1 .taken)
 
--- src/kept.rt:45:9
 returns-2 : tie.Need-returns-2
 returns-2 c = digit (c .before .before .args .b) (c .before .if1 .left) (c .if2 .taken)
 
--- src/kept.rt:48:9
 returns-3 : tie.Need-returns-3
 returns-3 c = colon (c .before .before .before .args .b) (c .before .if2 .left) (c .if3 .taken)
 
--- src/kept.rt:51:9
 returns-4 : tie.Need-returns-4
 returns-4 c = capital (c .before .before .before .before .args .b) (c .before .if3 .left) (c .if4 .taken)
 
--- src/kept.rt:54:9
 returns-5 : tie.Need-returns-5
 returns-5 c = bracket (c .before .before .before .before .before .args .b) (c .before .if4 .left) (c .if5 .taken)
 
--- src/kept.rt:57:9
 returns-6 : tie.Need-returns-6
 returns-6 c = underscore (c .before .before .before .before .before .before .args .b) (c .before .if5 .left) (c .if6 .taken)
 
--- src/kept.rt:60:9
 returns-7 : tie.Need-returns-7
 returns-7 c = quote (c .before .before .before .before .before .before .before .args .b) (c .before .if6 .left) (c .if7 .taken)
 
--- src/kept.rt:63:9
 returns-8 : tie.Need-returns-8
 returns-8 c = small (c .before .before .before .before .before .before .before .before .args .b) (c .before .if7 .left) (c .if8 .taken)
 
--- src/kept.rt:38:1
 returns-9 : tie.Need-returns-9
 returns-9 c = high (c .before .before .before .before .before .before .before .before .args .b) (c .if8 .left) (omega arith)
 

@@ -6,9 +6,6 @@ use Rattle.directory.proofs.Front.{Searching, searching-first, searchin
 use borrow.Author.Needs.{needs}
 use Rattle.directory.proofs.kept.word_end.Statement.{statement}
 use Rattle.directory.proofs.kept.word_end.Tie as tie
-use Rattle.directory.proofs.kept.word_end.Reads as reads
-use Rattle.directory.proofs.kept.word_end.Lts as lts
-use Rattle.directory.proofs.kept.is_word.Reads as is-word-reads
 
 abbrev Inv-loop : tie.InvT-loop
 Inv-loop text a from i₀ i = (h : a ≤ length text) → Searching text a h from i
@@ -16,35 +13,27 @@ Inv-loop text a from i₀ i = (h : a ≤ length text) → Searching text a h fro
 abbrev μ-loop : tie.MeasureT-loop
 μ-loop text a from i₀ i = a - i
 
--- src/kept.rt:81:5
 loop-holds : tie.Need-loop-holds Inv-loop μ-loop
 loop-holds c = λ h. searching-first (c .before .args .text .now) (c .before .args .a) h (c .before .args .from) (omega arith)
 
--- src/kept.rt:82:20
 shared-slice-read-is-word : tie.Need-shared-slice-read-is-word Inv-loop μ-loop
 shared-slice-read-is-word c = search needs
 
--- src/kept.rt:82:12
 is-word-requires : tie.Need-is-word-requires Inv-loop μ-loop
 is-word-requires c κs = search needs
 
--- src/kept.rt:83:13
 add-i : tie.Need-add-i Inv-loop μ-loop
 add-i c = search needs
 
--- src/kept.rt:81:5
 loop-less : tie.Need-loop-less Inv-loop μ-loop
 loop-less c = search needs
 
--- src/kept.rt:81:5
 loop-again : tie.Need-loop-again Inv-loop μ-loop
 loop-again c = λ h. searching-more (c .before .before .before .before .before .before .args .text .now) (c .before .before .before .before .before .before .args .a) h (c .before .before .before .before .before .before .args .from) (c .before .before .before .before .loop .i) (c .before .before .before .before .loop .inv h) (c .before .before .before .loop-test .taken) (sym (c .before .is-word .ensures) ∙ c .if1 .taken)
 
--- src/kept.rt:85:13
 returns : tie.Need-returns Inv-loop μ-loop
 returns c = found (c .before .before .before .before .before .before .args .text .now) (c .before .before .before .before .before .before .args .a) (omega arith) (c .before .before .before .before .before .before .args .from) (c .before .before .before .before .loop .i) (c .before .before .before .before .loop .inv (omega arith)) (c .before .before .before .loop-test .taken) (sym (c .before .is-word .ensures) ∙ c .if1 .left)
 
--- src/kept.rt:76:1
 returns-2 : tie.Need-returns-2 Inv-loop μ-loop
 returns-2 c = found-end (c .before .before .before .args .text .now) (c .before .before .before .args .a) (omega arith) (c .before .before .before .args .from) (c .before .loop .i) (c .before .loop .inv (omega arith)) (c .loop-test .left)
 

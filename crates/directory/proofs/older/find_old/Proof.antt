@@ -5,8 +5,6 @@ use Rattle.directory.proofs.Find.{found-here, found-none, found-end, pa
 use borrow.Author.Needs.{needs}
 use Rattle.directory.proofs.older.find_old.Statement.{statement}
 use Rattle.directory.proofs.older.find_old.Tie as tie
-use Rattle.directory.proofs.older.find_old.Reads as reads
-use Rattle.directory.proofs.older.find_old.Lts as lts
 
 abbrev Inv-loop : tie.InvT-loop
 Inv-loop directory entries from target j₀ j = (j ≤ entries) × Passed (oldsOf entries directory) j target
@@ -14,43 +12,33 @@ Inv-loop directory entries from target j₀ j = (j ≤ entries) × Passed (oldsO
 abbrev μ-loop : tie.MeasureT-loop
 μ-loop directory entries from target j₀ j = entries - j
 
--- src/older.rt:61:5
 loop-holds : tie.Need-loop-holds Inv-loop μ-loop
 loop-holds c = (c .pre .0, c .pre .1 .1)
 
--- src/older.rt:62:32
 mul-start : tie.Need-mul-start Inv-loop μ-loop
 mul-start c = search needs
 
--- src/older.rt:62:22
 mul-start-2 : tie.Need-mul-start-2 Inv-loop μ-loop
 mul-start-2 c = search needs
 
--- src/older.rt:62:22
 shared-slice-read-start : tie.Need-shared-slice-read-start Inv-loop μ-loop
 shared-slice-read-start c = search needs
 
--- src/older.rt:64:13
 returns : tie.Need-returns Inv-loop μ-loop
 returns c = found-here (c .before .before .before .before .args .entries) (c .before .before .before .before .args .directory .now) (c .before .before .before .before .pre .1 .0) (c .before .before .before .loop .j) (c .before .before .before .before .args .target) (c .before .before .before .loop .inv .1) (c .before .before .loop-test .taken) (c .if1 .taken)
 
--- src/older.rt:67:13
 returns-2 : tie.Need-returns-2 Inv-loop μ-loop
 returns-2 c = found-none (c .before .before .before .before .before .args .entries) (c .before .before .before .before .before .args .directory .now) (c .before .before .before .before .before .pre .1 .0) (c .before .before .before .before .loop .j) (c .before .before .before .before .before .args .target) (c .before .before .before .before .loop .inv .1) (c .before .before .before .loop-test .taken) (c .if2 .taken)
 
--- src/older.rt:69:9
 add-j : tie.Need-add-j Inv-loop μ-loop
 add-j c = search needs
 
--- src/older.rt:61:5
 loop-less : tie.Need-loop-less Inv-loop μ-loop
 loop-less c = search needs
 
--- src/older.rt:61:5
 loop-again : tie.Need-loop-again Inv-loop μ-loop
 loop-again c = (omega arith, passed-more (c .before .before .before .before .before .args .entries) (c .before .before .before .before .before .args .directory .now) (c .before .before .before .before .before .pre .1 .0) (c .before .before .before .before .loop .j) (c .before .before .before .before .before .args .target) (c .before .before .before .before .loop .inv .1) (c .before .before .before .loop-test .taken) (c .before .if1 .left) (c .if2 .left))
 
--- src/older.rt:54:1
 returns-3 : tie.Need-returns-3 Inv-loop μ-loop
 returns-3 c = found-end (c .before .before .args .entries) (c .before .before .args .directory .now) (c .before .before .pre .1 .0) (c .before .loop .j) (c .before .before .args .target) (c .before .loop .inv .1) (c .before .loop .inv .0) (c .loop-test .left)
 

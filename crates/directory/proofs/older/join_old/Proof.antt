@@ -5,23 +5,16 @@ use Rattle.directory.proofs.Find.{too-far, joins-is}
 use borrow.Author.Needs.{needs}
 use Rattle.directory.proofs.older.join_old.Statement.{statement}
 use Rattle.directory.proofs.older.join_old.Tie as tie
-use Rattle.directory.proofs.older.join_old.Reads as reads
-use Rattle.directory.proofs.older.join_old.Lts as lts
-use Rattle.directory.proofs.older.find_old.Reads as find-old-reads
 
--- src/older.rt:83:9
 returns : tie.Need-returns
 returns c = too-far (c .before .before .args .c) (c .before .before .args .older-len) (c .before .before .args .left) (oldsOf (c .before .before .args .entries) (c .before .before .args .directory .now)) (c .before .before .args .from) (c .if1 .taken) (omega (arith, olds-length (c .before .before .args .entries) (c .before .before .args .directory .now) (c .before .before .pre .1 .0 .inside))) (c .before .before .pre .1 .1)
 
--- src/older.rt:85:40
 sub-find-old : tie.Need-sub-find-old
 sub-find-old c = search needs
 
--- src/older.rt:85:5
 find-old-requires : tie.Need-find-old-requires
 find-old-requires c κs = search needs
 
--- src/older.rt:76:1
 returns-2 : tie.Need-returns-2
 returns-2 c = joins-is (c .before .before .before .args .c) (c .before .before .before .args .older-len) (c .before .before .before .args .left) (oldsOf (c .before .before .before .args .entries) (c .before .before .before .args .directory .now)) (c .find-old .result) (c .before .if1 .left) (c .find-old .ensures)
 

@@ -4,30 +4,22 @@ use Rattle.directory.proofs.Judge.{no-words, no-number, no-entry, fits}
 use borrow.Author.Needs.{needs}
 use Rattle.directory.proofs.rooms.room_for.Statement.{statement}
 use Rattle.directory.proofs.rooms.room_for.Tie as tie
-use Rattle.directory.proofs.rooms.room_for.Reads as reads
-use Rattle.directory.proofs.rooms.room_for.Lts as lts
 
--- src/rooms.rt:17:9
 returns : tie.Need-returns
 returns c = sym (no-words _ _ _ _ _ (omega arith))
 
--- src/rooms.rt:20:9
 returns-2 : tie.Need-returns-2
 returns-2 c = sym (no-words _ _ _ _ _ (omega arith))
 
--- src/rooms.rt:22:22
 add-if3 : tie.Need-add-if3
 add-if3 c = search needs
 
--- src/rooms.rt:23:9
 returns-3 : tie.Need-returns-3
 returns-3 c = sym (no-number _ _ _ _ _ (omega arith) (omega arith))
 
--- src/rooms.rt:26:9
 returns-4 : tie.Need-returns-4
 returns-4 c = sym (no-entry _ _ _ _ _ (omega arith) (omega arith) (omega arith))
 
--- src/rooms.rt:13:1
 returns-5 : tie.Need-returns-5
 returns-5 c = sym (fits _ _ _ _ _ (omega arith) (omega arith) (omega arith))
 

@@ -1,5 +1,5 @@
-use mathlib.Core.Path.{_≡_, refl, sym, _∙_}
-use Prim.Native.Nat.{_+_, _-_, _*_, _%_, _≤_}
+use mathlib.Core.Path.{refl, sym, _∙_}
+use Prim.Native.Nat.{_+_, _-_, _*_, _%_}
 use native.Mathlib.Omega.{arith}
 use lib.ListN.{length, drop, getD}
 use Rattle.records.specs.Pieces.{judge}
@@ -8,9 +8,6 @@ use Rattle.directory.proofs.Judge.{sizesOf, fitting, Judging, judging-e
 use borrow.Author.Needs.{needs}
 use Rattle.directory.proofs.rooms.room_kept.Statement.{statement}
 use Rattle.directory.proofs.rooms.room_kept.Tie as tie
-use Rattle.directory.proofs.rooms.room_kept.Reads as reads
-use Rattle.directory.proofs.rooms.room_kept.Lts as lts
-use Rattle.directory.proofs.rooms.room_for.Reads as room-for-reads
 
 abbrev Inv-loop : tie.InvT-loop
 Inv-loop directory entries from i pos at words-len k₀ number₀ place₀ first₀ k number place first = Judging words-len (length directory) entries directory (judge words-len (length directory) i pos at (sizesOf (drop from (oldsOf entries directory)))) k number place first
@@ -18,95 +15,72 @@ Inv-loop directory entries from i pos at words-len k₀ number₀ place₀ first
 abbrev μ-loop : tie.MeasureT-loop
 μ-loop directory entries from i pos at words-len k₀ number₀ place₀ first₀ k number place first = entries - k
 
--- src/rooms.rt:47:5
 loop-holds : tie.Need-loop-holds Inv-loop μ-loop
 loop-holds c = record { small = c .before .pre .1; same = refl }
 
--- src/rooms.rt:48:28
 mul-e : tie.Need-mul-e Inv-loop μ-loop
 mul-e c = search needs
 
--- src/rooms.rt:48:18
 mul-e-2 : tie.Need-mul-e-2 Inv-loop μ-loop
 mul-e-2 c = search needs
 
--- src/rooms.rt:48:18
 shared-slice-read-e : tie.Need-shared-slice-read-e Inv-loop μ-loop
 shared-slice-read-e c = search needs
 
--- src/rooms.rt:49:28
 mul-n : tie.Need-mul-n Inv-loop μ-loop
 mul-n c = search needs
 
--- src/rooms.rt:49:28
 add-n : tie.Need-add-n Inv-loop μ-loop
 add-n c = search needs
 
--- src/rooms.rt:49:18
 mul-n-2 : tie.Need-mul-n-2 Inv-loop μ-loop
 mul-n-2 c = search needs
 
--- src/rooms.rt:49:18
 shared-slice-read-n : tie.Need-shared-slice-read-n Inv-loop μ-loop
 shared-slice-read-n c = search needs
 
--- src/rooms.rt:50:15
 room-for-requires : tie.Need-room-for-requires Inv-loop μ-loop
 room-for-requires c κs = search needs
 
--- src/rooms.rt:51:56
 enum-told : tie.Need-enum-told Inv-loop μ-loop
 enum-told c = search needs
 
--- src/rooms.rt:51:56
 add-t23 : tie.Need-add-t23 Inv-loop μ-loop
 add-t23 c = omega (arith, place-small (c .before .before .before .before .before .before .before .before .args .words-len) (length (c .before .before .before .before .before .before .before .before .args .directory .now)) (c .before .before .before .before .before .before .before .before .args .entries) (c .before .before .before .before .before .before .before .before .args .directory .now) (judge (c .before .before .before .before .before .before .before .before .args .words-len) (length (c .before .before .before .before .before .before .before .before .args .directory .now)) (c .before .before .before .before .before .before .before .before .args .i) (c .before .before .before .before .before .before .before .before .args .pos) (c .before .before .before .before .before .before .before .before .args .at) (sizesOf (drop (c .before .before .before .before .before .before .before .before .args .from) (oldsOf (c .before .before .before .before .before .before .before .before .args .entries) (c .before .before .before .before .before .before .before .before .args .directory .now))))) (c .before .before .before .before .before .before .before .before .pre .0) (c .before .before .before .before .before .before .loop .k) (c .before .before .before .before .before .before .loop .number) (c .before .before .before .before .before .before .loop .place) (c .before .before .before .before .before .before .loop .first) (c .before .before .before .before .before .before .loop .inv) (c .before .before .before .before .before .loop-test .taken))
 
--- src/rooms.rt:51:28
 returns : tie.Need-returns Inv-loop μ-loop
 returns c = judging-words (c .before .before .before .before .before .before .before .before .args .words-len) (length (c .before .before .before .before .before .before .before .before .args .directory .now)) (c .before .before .before .before .before .before .before .before .args .entries) (c .before .before .before .before .before .before .before .before .args .directory .now) (judge (c .before .before .before .before .before .before .before .before .args .words-len) (length (c .before .before .before .before .before .before .before .before .args .directory .now)) (c .before .before .before .before .before .before .before .before .args .i) (c .before .before .before .before .before .before .before .before .args .pos) (c .before .before .before .before .before .before .before .before .args .at) (sizesOf (drop (c .before .before .before .before .before .before .before .before .args .from) (oldsOf (c .before .before .before .before .before .before .before .before .args .entries) (c .before .before .before .before .before .before .before .before .args .directory .now))))) (c .before .before .before .before .before .before .before .before .pre .0) (c .before .before .before .before .before .before .loop .k) (c .before .before .before .before .before .before .loop .number) (c .before .before .before .before .before .before .loop .place) (c .before .before .before .before .before .before .loop .first) (c .before .before .before .before .before .before .loop .inv) (c .before .before .before .before .before .loop-test .taken) (sym (c .enum-told .given .1) ∙ c .before .before .room-for .ensures)
 
--- src/rooms.rt:52:56
 enum-told-2 : tie.Need-enum-told-2 Inv-loop μ-loop
 enum-told-2 c = search needs
 
--- src/rooms.rt:52:56
 add-t24 : tie.Need-add-t24 Inv-loop μ-loop
 add-t24 c = omega (arith, place-small (c .before .before .before .before .before .before .before .before .args .words-len) (length (c .before .before .before .before .before .before .before .before .args .directory .now)) (c .before .before .before .before .before .before .before .before .args .entries) (c .before .before .before .before .before .before .before .before .args .directory .now) (judge (c .before .before .before .before .before .before .before .before .args .words-len) (length (c .before .before .before .before .before .before .before .before .args .directory .now)) (c .before .before .before .before .before .before .before .before .args .i) (c .before .before .before .before .before .before .before .before .args .pos) (c .before .before .before .before .before .before .before .before .args .at) (sizesOf (drop (c .before .before .before .before .before .before .before .before .args .from) (oldsOf (c .before .before .before .before .before .before .before .before .args .entries) (c .before .before .before .before .before .before .before .before .args .directory .now))))) (c .before .before .before .before .before .before .before .before .pre .0) (c .before .before .before .before .before .before .loop .k) (c .before .before .before .before .before .before .loop .number) (c .before .before .before .before .before .before .loop .place) (c .before .before .before .before .before .before .loop .first) (c .before .before .before .before .before .before .loop .inv) (c .before .before .before .before .before .loop-test .taken))
 
--- src/rooms.rt:52:28
 returns-2 : tie.Need-returns-2 Inv-loop μ-loop
 returns-2 c = judging-entry (c .before .before .before .before .before .before .before .before .args .words-len) (length (c .before .before .before .before .before .before .before .before .args .directory .now)) (c .before .before .before .before .before .before .before .before .args .entries) (c .before .before .before .before .before .before .before .before .args .directory .now) (judge (c .before .before .before .before .before .before .before .before .args .words-len) (length (c .before .before .before .before .before .before .before .before .args .directory .now)) (c .before .before .before .before .before .before .before .before .args .i) (c .before .before .before .before .before .before .before .before .args .pos) (c .before .before .before .before .before .before .before .before .args .at) (sizesOf (drop (c .before .before .before .before .before .before .before .before .args .from) (oldsOf (c .before .before .before .before .before .before .before .before .args .entries) (c .before .before .before .before .before .before .before .before .args .directory .now))))) (c .before .before .before .before .before .before .before .before .pre .0) (c .before .before .before .before .before .before .loop .k) (c .before .before .before .before .before .before .loop .number) (c .before .before .before .before .before .before .loop .place) (c .before .before .before .before .before .before .loop .first) (c .before .before .before .before .before .before .loop .inv) (c .before .before .before .before .before .loop-test .taken) (sym (c .enum-told2 .given .1) ∙ c .before .before .room-for .ensures)
 
--- src/rooms.rt:54:17
 enum-told-3 : tie.Need-enum-told-3 Inv-loop μ-loop
 enum-told-3 c = search needs
 
--- src/rooms.rt:54:17
 add-k : tie.Need-add-k Inv-loop μ-loop
 add-k c = search needs
 
--- src/rooms.rt:55:17
 add-number : tie.Need-add-number Inv-loop μ-loop
 add-number c = let f = fitting (c .before .before .before .before .before .before .before .before .args .words-len) (length (c .before .before .before .before .before .before .before .before .args .directory .now)) (c .before .before .before .before .before .before .loop .number) (c .before .before .before .before .before .before .loop .first) (getD (c .before .before .before .before .before .before .before .before .args .directory .now) (c .before .before .before .before .before .before .loop .k * 2 + 1) 0 % 4294967296) (sym (c .before .before .room-for .ensures) ∙ c .enum-told3 .given .1) in omega (arith, f .entry)
 
--- src/rooms.rt:56:17
 add-place : tie.Need-add-place Inv-loop μ-loop
 add-place c = omega (arith, place-small (c .before .before .before .before .before .before .before .before .args .words-len) (length (c .before .before .before .before .before .before .before .before .args .directory .now)) (c .before .before .before .before .before .before .before .before .args .entries) (c .before .before .before .before .before .before .before .before .args .directory .now) (judge (c .before .before .before .before .before .before .before .before .args .words-len) (length (c .before .before .before .before .before .before .before .before .args .directory .now)) (c .before .before .before .before .before .before .before .before .args .i) (c .before .before .before .before .before .before .before .before .args .pos) (c .before .before .before .before .before .before .before .before .args .at) (sizesOf (drop (c .before .before .before .before .before .before .before .before .args .from) (oldsOf (c .before .before .before .before .before .before .before .before .args .entries) (c .before .before .before .before .before .before .before .before .args .directory .now))))) (c .before .before .before .before .before .before .before .before .pre .0) (c .before .before .before .before .before .before .loop .k) (c .before .before .before .before .before .before .loop .number) (c .before .before .before .before .before .before .loop .place) (c .before .before .before .before .before .before .loop .first) (c .before .before .before .before .before .before .loop .inv) (c .before .before .before .before .before .loop-test .taken))
 
--- src/rooms.rt:57:17
 add-first : tie.Need-add-first Inv-loop μ-loop
 add-first c = let f = fitting (c .before .before .before .before .before .before .before .before .args .words-len) (length (c .before .before .before .before .before .before .before .before .args .directory .now)) (c .before .before .before .before .before .before .loop .number) (c .before .before .before .before .before .before .loop .first) (getD (c .before .before .before .before .before .before .before .before .args .directory .now) (c .before .before .before .before .before .before .loop .k * 2 + 1) 0 % 4294967296) (sym (c .before .before .room-for .ensures) ∙ c .enum-told3 .given .1) in omega (arith, f .small)
 
--- src/rooms.rt:47:5
 loop-less : tie.Need-loop-less Inv-loop μ-loop
 loop-less c = search needs
 
--- src/rooms.rt:47:5
 loop-again : tie.Need-loop-again Inv-loop μ-loop
 loop-again c = judging-next (c .before .before .before .before .before .before .before .before .args .words-len) (length (c .before .before .before .before .before .before .before .before .args .directory .now)) (c .before .before .before .before .before .before .before .before .args .entries) (c .before .before .before .before .before .before .before .before .args .directory .now) (judge (c .before .before .before .before .before .before .before .before .args .words-len) (length (c .before .before .before .before .before .before .before .before .args .directory .now)) (c .before .before .before .before .before .before .before .before .args .i) (c .before .before .before .before .before .before .before .before .args .pos) (c .before .before .before .before .before .before .before .before .args .at) (sizesOf (drop (c .before .before .before .before .before .before .before .before .args .from) (oldsOf (c .before .before .before .before .before .before .before .before .args .entries) (c .before .before .before .before .before .before .before .before .args .directory .now))))) (c .before .before .before .before .before .before .before .before .pre .0) (c .before .before .before .before .before .before .loop .k) (c .before .before .before .before .before .before .loop .number) (c .before .before .before .before .before .before .loop .place) (c .before .before .before .before .before .before .loop .first) (c .before .before .before .before .before .before .loop .inv) (c .before .before .before .before .before .loop-test .taken) (sym (c .enum-told3 .given .1) ∙ c .before .before .room-for .ensures)
 
--- src/rooms.rt:38:1
 returns-3 : tie.Need-returns-3 Inv-loop μ-loop
 returns-3 c = judging-end (c .before .before .before .args .words-len) (length (c .before .before .before .args .directory .now)) (c .before .before .before .args .entries) (c .before .before .before .args .directory .now) (judge (c .before .before .before .args .words-len) (length (c .before .before .before .args .directory .now)) (c .before .before .before .args .i) (c .before .before .before .args .pos) (c .before .before .before .args .at) (sizesOf (drop (c .before .before .before .args .from) (oldsOf (c .before .before .before .args .entries) (c .before .before .before .args .directory .now))))) (c .before .before .before .pre .0) (c .before .loop .k) (c .before .loop .number) (c .before .loop .place) (c .before .loop .first) (c .loop-test .left) (c .before .loop .inv)
 

@@ -5,9 +5,6 @@ use Rattle.directory.proofs.Compare.{shares-more, older-ends, newer-end
 use borrow.Author.Needs.{needs}
 use Rattle.directory.proofs.text.common.Statement.{statement}
 use Rattle.directory.proofs.text.common.Tie as tie
-use Rattle.directory.proofs.text.common.Reads as reads
-use Rattle.directory.proofs.text.common.Lts as lts
-use Rattle.directory.proofs.text.common_blocks.Reads as common-blocks-reads
 
 abbrev Inv-loop : tie.InvT-loop
 Inv-loop older newer i₀ i = Shares older newer i
@@ -15,43 +12,33 @@ Inv-loop older newer i₀ i = Shares older newer i
 abbrev μ-loop : tie.MeasureT-loop
 μ-loop older newer i₀ i = length older - i
 
--- src/text.rt:83:9
 common-blocks-requires : tie.Need-common-blocks-requires Inv-loop μ-loop
 common-blocks-requires c κs = search needs
 
--- src/text.rt:84:5
 loop-holds : tie.Need-loop-holds Inv-loop μ-loop
 loop-holds c = c .common-blocks .ensures
 
--- src/text.rt:86:13
 returns : tie.Need-returns Inv-loop μ-loop
 returns c = newer-ends (c .before .before .before .before .before .before .args .older .now) (c .before .before .before .before .before .before .args .newer .now) (c .before .before .loop .i) (c .before .before .loop .inv) (c .before .loop-test .taken) (c .if1 .taken)
 
--- src/text.rt:88:12
 shared-slice-read-if2 : tie.Need-shared-slice-read-if2 Inv-loop μ-loop
 shared-slice-read-if2 c = search needs
 
--- src/text.rt:88:24
 shared-slice-read-if2-2 : tie.Need-shared-slice-read-if2-2 Inv-loop μ-loop
 shared-slice-read-if2-2 c = search needs
 
--- src/text.rt:89:13
 returns-2 : tie.Need-returns-2 Inv-loop μ-loop
 returns-2 c = bytes-differ (c .before .before .before .before .before .before .before .before .before .args .older .now) (c .before .before .before .before .before .before .before .before .before .args .newer .now) (c .before .before .before .before .before .loop .i) (c .before .before .before .before .before .loop .inv) (c .before .before .before .before .loop-test .taken) (c .before .before .before .if1 .left) (c .if2 .taken)
 
--- src/text.rt:91:9
 add-i : tie.Need-add-i Inv-loop μ-loop
 add-i c = search needs
 
--- src/text.rt:84:5
 loop-less : tie.Need-loop-less Inv-loop μ-loop
 loop-less c = search needs
 
--- src/text.rt:84:5
 loop-again : tie.Need-loop-again Inv-loop μ-loop
 loop-again c = shares-more (c .before .before .before .before .before .before .before .before .before .args .older .now) (c .before .before .before .before .before .before .before .before .before .args .newer .now) (c .before .before .before .before .before .loop .i) (c .before .before .before .before .loop-test .taken) (c .before .before .before .if1 .left) (c .if2 .left) (c .before .before .before .before .before .loop .inv)
 
--- src/text.rt:80:1
 returns-3 : tie.Need-returns-3 Inv-loop μ-loop
 returns-3 c = older-ends (c .before .before .before .before .before .args .older .now) (c .before .before .before .before .before .args .newer .now) (c .before .loop .i) (c .before .loop .inv) (c .loop-test .left)
 

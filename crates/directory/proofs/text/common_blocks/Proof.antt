@@ -6,9 +6,6 @@ use Rattle.directory.proofs.Compare.{shares-none, shares-block}
 use borrow.Author.Needs.{needs}
 use Rattle.directory.proofs.text.common_blocks.Statement.{statement}
 use Rattle.directory.proofs.text.common_blocks.Tie as tie
-use Rattle.directory.proofs.text.common_blocks.Reads as reads
-use Rattle.directory.proofs.text.common_blocks.Lts as lts
-use Rattle.directory.proofs.text.differ.Reads as differ-reads
 
 abbrev Inv-loop : tie.InvT-loop
 Inv-loop older newer i₀ i = Shares older newer i
@@ -16,43 +13,33 @@ Inv-loop older newer i₀ i = Shares older newer i
 abbrev μ-loop : tie.MeasureT-loop
 μ-loop older newer i₀ i = length older - i
 
--- src/text.rt:67:5
 loop-holds : tie.Need-loop-holds Inv-loop μ-loop
 loop-holds c = shares-none (c .before .before .args .older .now) (c .before .before .args .newer .now)
 
--- src/text.rt:67:17
 sub-loop : tie.Need-sub-loop Inv-loop μ-loop
 sub-loop c = search needs
 
--- src/text.rt:68:12
 sub-if1 : tie.Need-sub-if1 Inv-loop μ-loop
 sub-if1 c = search needs
 
--- src/text.rt:69:13
 returns : tie.Need-returns Inv-loop μ-loop
 returns c = c .before .before .loop .inv
 
--- src/text.rt:71:12
 differ-requires : tie.Need-differ-requires Inv-loop μ-loop
 differ-requires c κs = search needs
 
--- src/text.rt:72:13
 returns-2 : tie.Need-returns-2 Inv-loop μ-loop
 returns-2 c = c .before .before .before .before .loop .inv
 
--- src/text.rt:74:9
 add-i : tie.Need-add-i Inv-loop μ-loop
 add-i c = search needs
 
--- src/text.rt:67:5
 loop-less : tie.Need-loop-less Inv-loop μ-loop
 loop-less c = search needs
 
--- src/text.rt:67:5
 loop-again : tie.Need-loop-again Inv-loop μ-loop
 loop-again c = shares-block (c .before .before .before .before .before .before .before .args .older .now) (c .before .before .before .before .before .before .before .args .newer .now) (c .before .before .before .before .loop .i) (omega arith) (omega arith) (c .before .differ .ensures (c .if2 .left)) (c .before .before .before .before .loop .inv)
 
--- src/text.rt:63:1
 returns-3 : tie.Need-returns-3 Inv-loop μ-loop
 returns-3 c = c .before .loop .inv
 

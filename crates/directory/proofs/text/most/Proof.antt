@@ -8,8 +8,6 @@ use Rattle.directory.proofs.Texts.{or-left, or-right}
 use borrow.Author.Needs.{needs}
 use Rattle.directory.proofs.text.most.Statement.{statement}
 use Rattle.directory.proofs.text.most.Tie as tie
-use Rattle.directory.proofs.text.most.Reads as reads
-use Rattle.directory.proofs.text.most.Lts as lts
 
 abbrev Inv-loop : tie.InvT-loop
 Inv-loop text m₀ i₀ m i = (i ≤ length text) × ((k : ℕ) → k < i → getD text k 0 ≤ m)
@@ -17,23 +15,18 @@ Inv-loop text m₀ i₀ m i = (i ≤ length text) × ((k : ℕ) → k < i → ge
 abbrev μ-loop : tie.MeasureT-loop
 μ-loop text m₀ i₀ m i = length text - i
 
--- src/text.rt:20:5
 loop-holds : tie.Need-loop-holds Inv-loop μ-loop
 loop-holds c = (omega arith, below-none (λ k. getD (c .args .text .now) k 0 ≤ 0))
 
--- src/text.rt:21:17
 shared-slice-read-m : tie.Need-shared-slice-read-m Inv-loop μ-loop
 shared-slice-read-m c = search needs
 
--- src/text.rt:22:9
 add-i : tie.Need-add-i Inv-loop μ-loop
 add-i c = search needs
 
--- src/text.rt:20:5
 loop-less : tie.Need-loop-less Inv-loop μ-loop
 loop-less c = search needs
 
--- src/text.rt:20:5
 loop-again : tie.Need-loop-again Inv-loop μ-loop
 loop-again c = (
   omega arith,
@@ -42,7 +35,6 @@ loop-again c = (
       (or-right (c .before .before .loop .m) (getD (c .before .before .before .args .text .now) (c .before .before .loop .i) 0)),
 )
 
--- src/text.rt:15:1
 returns : tie.Need-returns Inv-loop μ-loop
 returns c = λ k h. c .before .loop .inv .1 k (omega arith)
 

@@ -7,9 +7,6 @@ use Rattle.directory.proofs.Texts.{too-long, whole-is, all-low, low-nex
 use borrow.Author.Needs.{needs}
 use Rattle.directory.proofs.text.whole.Statement.{statement}
 use Rattle.directory.proofs.text.whole.Tie as tie
-use Rattle.directory.proofs.text.whole.Reads as reads
-use Rattle.directory.proofs.text.whole.Lts as lts
-use Rattle.directory.proofs.text.most.Reads as most-reads
 
 abbrev Inv-loop : tie.InvT-loop
 Inv-loop text i₀ i = firstHigh 0 text ≡ firstHigh i (drop i text)
@@ -17,43 +14,33 @@ Inv-loop text i₀ i = firstHigh 0 text ≡ firstHigh i (drop i text)
 abbrev μ-loop : tie.MeasureT-loop
 μ-loop text i₀ i = length text - i
 
--- src/text.rt:32:9
 returns : tie.Need-returns Inv-loop μ-loop
 returns c = sym (too-long (c .before .before .args .text .now) (c .if1 .taken))
 
--- src/text.rt:34:8
 most-requires : tie.Need-most-requires Inv-loop μ-loop
 most-requires c κs = search needs
 
--- src/text.rt:35:9
 returns-2 : tie.Need-returns-2 Inv-loop μ-loop
 returns-2 c = sym (whole-is (c .before .before .before .before .args .text .now) fine (c .before .before .if1 .left) (all-low 0 (c .before .before .before .before .args .text .now) (λ k h. le-trans (c .before .most .ensures k h) (c .if2 .taken))))
 
--- src/text.rt:38:5
 loop-holds : tie.Need-loop-holds Inv-loop μ-loop
 loop-holds c = refl
 
--- src/text.rt:39:18
 shared-slice-read-if3 : tie.Need-shared-slice-read-if3 Inv-loop μ-loop
 shared-slice-read-if3 c = search needs
 
--- src/text.rt:40:13
 returns-3 : tie.Need-returns-3 Inv-loop μ-loop
 returns-3 c = sym (whole-is (c .before .before .before .before .before .before .before .before .args .text .now) (refused 2 (c .before .before .before .loop .i)) (c .before .before .before .before .before .before .if1 .left) (c .before .before .before .loop .inv ∙ high-here (c .before .before .before .loop .i) (c .before .before .before .before .before .before .before .before .args .text .now) (c .before .before .loop-test .taken) (c .if3 .taken)))
 
--- src/text.rt:42:9
 add-i : tie.Need-add-i Inv-loop μ-loop
 add-i c = search needs
 
--- src/text.rt:38:5
 loop-less : tie.Need-loop-less Inv-loop μ-loop
 loop-less c = search needs
 
--- src/text.rt:38:5
 loop-again : tie.Need-loop-again Inv-loop μ-loop
 loop-again c = c .before .before .before .loop .inv ∙ low-next (c .before .before .before .loop .i) (c .before .before .before .before .before .before .before .before .args .text .now) (c .before .before .loop-test .taken) (c .if3 .left)
 
--- src/text.rt:28:1
 returns-4 : tie.Need-returns-4 Inv-loop μ-loop
 returns-4 c = sym (whole-is (c .before .before .before .before .before .before .args .text .now) fine (c .before .before .before .before .if1 .left) (c .before .loop .inv ∙ low-end (c .before .loop .i) (c .before .before .before .before .before .before .args .text .now) (c .loop-test .left)))
 
