@@ -206,9 +206,6 @@ module _ (headAt : List ℕ → HeadRead) (blockAt : List ℕ → BlockRead) (G 
         }
 
   module _ (c1 : Chained T W n dir) (hc : c ≤ T) (i pos at j : ℕ) (g : Drying i pos at j) where
-    s : List ℕ
-    s = drop pos newer
-
     long : length (drop pos newer) ≡ length newer - pos
     long = length-drop pos newer
 

@@ -52,9 +52,6 @@ put-taken front old i cur g = ap (take (i * 2)) (g .list) ∙ take-at front (dro
 
 -- ---- the words of a re-reading: a words stay, `new` is read behind them, m words from f on have moved behind these
 module _ (ws new w2 : List ℕ) (a f m : ℕ) (ha : a ≤ length ws) (hm : a + length new + m ≤ length ws) (hf : f + m ≤ length ws) where
-  front-long : length (take a ws ++ new) ≡ a + length new
-  front-long = length-append (take a ws) new ∙ ap (λ (x : ℕ). x + length new) (length-take-le a ws ha)
-
   stretch-long : m ≤ length (drop f ws)
   stretch-long = omega (arith, length-drop f ws)
 
@@ -114,9 +111,6 @@ module _ (T : ℕ) (ws : List ℕ) (n : ℕ) (dir : List ℕ) (c : Chained T (le
 
   module _ (r : ℕ) (w1 d1 : List ℕ) (b : KeptBehind ws dir n j (k + length fs) (posOf + readSize fs) (atOf + length (readWords fs)) r w1 d1)
       (room : RoomFor (length ws) (length dir) (k + length fs) (atOf + length (readWords fs)) (drop j (oldsOf n dir))) where
-    in-front : atOf + oldWords (drop k (oldsOf n dir)) ≤ length ws
-    in-front = omega (arith, words-split k (oldsOf n dir), c .in-words)
-
     count-behind : length (drop j (oldsOf n dir)) ≡ n - j
     count-behind = length-drop j (oldsOf n dir) ∙ ap (λ (x : ℕ). x - j) (olds-length n dir (c .joined .inside))
 

@@ -7,7 +7,7 @@ use mathlib.Core.List.{List, [], _∷_, _++_}
 use mathlib.Core.Option.{Option, none, some}
 use Prim.Native.Nat.{ℕ, zero, suc, _+_, _*_, _/_, _^_}
 use lib.Dec.{ltb, eqb}
-use lib.ListN.{length, take, drop, getD}
+use lib.ListN.{length, getD}
 use Rattle.program.specs.Bytes.{bytes, byte}
 use Rattle.program.specs.Prog.{Prog, ret, fail, look, eat, here, lead, scan, _>>=_}
 use Rattle.records.specs.Words.{node}
@@ -231,14 +231,13 @@ parseFence = do
   _ ← parseTrailing
   ret (node kFence 0 0 (0 ∷ []))
 
--- Behind an alloca's type: "of several counts and aligns the last counts". The count's words, the alignment's word.
-unfoldable pub allocaNode : ℕ → List ℕ → List ℕ → List ℕ → List ℕ
-allocaNode dest t [] align = node kAlloca (length align * 2) 1 (dest ∷ (align ++ t))
-allocaNode dest t (x ∷ xs) align = node kAlloca (1 + length align * 2) 3 (dest ∷ (align ++ (t ++ (x ∷ xs))))
+-- Behind an alloca's type: "of several counts and aligns the last counts". The count's words, if there is one, and the alignment's word.
+pub data AllocaRest : Type 0 where
+  allocaParts : Option (List ℕ) → List ℕ → AllocaRest
 
-unfoldable pub allocaRest : ℕ → ℕ → List ℕ → List ℕ → List ℕ → Prog (List ℕ)
-allocaRest zero dest t count align = ret (allocaNode dest t count align)
-allocaRest (suc u) dest t count align =
+unfoldable pub allocaRest : ℕ → Option (List ℕ) → List ℕ → Prog AllocaRest
+allocaRest zero count align = ret (allocaParts count align)
+allocaRest (suc u) count align =
     tokenIf (byte ",")
     (do
       _ ← eatWs
@@ -246,18 +245,24 @@ allocaRest (suc u) dest t count align =
           (do
             _ ← eatWs
             n ← parseInt 0 most64
-            allocaRest u dest t count (n ∷ []))
-          (byteIf (byte "!") (skipMetadataRef >>= λ _. allocaRest u dest t count align)
+            allocaRest u count (n ∷ []))
+          (byteIf (byte "!") (skipMetadataRef >>= λ _. allocaRest u count align)
           (do
             x ← parseTypedVal depthLimit
-            allocaRest u dest t x align)))
-    (ret (allocaNode dest t count align))
+            allocaRest u (some x) align)))
+    (ret (allocaParts count align))
+
+unfoldable pub allocaNode : ℕ → List ℕ → AllocaRest → List ℕ
+allocaNode dest t (allocaParts none align) = node kAlloca (length align * 2) 1 (dest ∷ (align ++ t))
+allocaNode dest t (allocaParts (some x) align) = node kAlloca (1 + length align * 2) 3 (dest ∷ ((align ++ t) ++ x))
 
 unfoldable pub parseAlloca : ℕ → Prog (List ℕ)
 parseAlloca dest = do
   _ ← skipKeyword (bytes "inalloca")
   t ← type 8
-  noParen (allocaRest turns dest t [] [])
+  noParen (do
+    r ← allocaRest turns none []
+    ret (allocaNode dest t r))
 
 -- a getelementptr's indices, from before the comma: k of them so far; base type and pointer stand before them
 unfoldable pub gepInstIndices : ℕ → ℕ → List ℕ → Prog Listed
@@ -400,9 +405,12 @@ parseBr = do
         _ ← parseTrailing
         ret (node kBr 3 3 ((c ++ labelNode a) ++ labelNode b)))
 
--- a value's two words where it is an integer (question 12, behind the value)
+-- a case's integer: the value's two words (question 12, behind the value)
 unfoldable pub caseWords : List ℕ → Prog (List ℕ)
-caseWords v = elim (eqb (getD v 0 0 / 2 ^ 56) kIntConst) [ true ↦ ret (drop 1 v) | false ↦ refuse 12 ]
+caseWords v = elim (eqb (getD v 0 0 / 2 ^ 56) kIntConst) [ true ↦ ret (getD v 1 0 ∷ getD v 2 0 ∷ []) | false ↦ refuse 12 ]
+
+unfoldable pub caseInt : Prog (List ℕ)
+caseInt = parseOperand >>= λ v. caseWords v
 
 -- a switch's cases: how many more are allowed, how many there are, their integers, the nodes of their labels
 pub data Cases : Type 0 where
@@ -412,20 +420,18 @@ unfoldable pub switchCases : ℕ → ℕ → List ℕ → List ℕ → Prog Case
 switchCases zero n ints labels =
     tokenIf (byte "]") (ret (cases n ints labels))
     (do
-      v ← parseOperand
-      _ ← caseWords v
+      _ ← caseInt
       _ ← target
       refuse 19)
 switchCases (suc k) n ints labels =
     tokenIf (byte "]") (ret (cases n ints labels))
     (do
-      v ← parseOperand
-      c ← caseWords v
+      c ← caseInt
       l ← target
       switchCases k (n + 1) (ints ++ c) (labels ++ labelNode l))
 
 unfoldable pub switchNode : List ℕ → ℕ → Cases → List ℕ
-switchNode x def (cases n ints labels) = node kSwitch 0 (3 + n) (ints ++ ((x ++ labelNode def) ++ labels))
+switchNode x def (cases n ints labels) = node kSwitch 0 (3 + n) (((ints ++ x) ++ labelNode def) ++ labels)
 
 unfoldable pub parseSwitch : Prog (List ℕ)
 parseSwitch = do

@@ -27,7 +27,7 @@ pub fn resume(p: Parsed, q: Parsed) -> Parsed
 }
 
 // A typed value whose type is dropped: its words are written over.
-fn parse_operand(classes: &[u8; 256], text: &[u8], words: &mut [u64], p: Parsed) -> Parsed
+pub fn parse_operand(classes: &[u8; 256], text: &[u8], words: &mut [u64], p: Parsed) -> Parsed
     requires { ⌜ Classes (now classes) ⌝ }
     ensures { λ r. ⌜ Reads parseOperand (now (text .entry)) p (now (words .entry)) r (now (words .exit)) ⌝ }
 {
@@ -37,7 +37,7 @@ fn parse_operand(classes: &[u8; 256], text: &[u8], words: &mut [u64], p: Parsed)
 }
 
 // T V, V
-fn two_operands(classes: &[u8; 256], text: &[u8], words: &mut [u64], p: Parsed) -> Parsed
+pub fn two_operands(classes: &[u8; 256], text: &[u8], words: &mut [u64], p: Parsed) -> Parsed
     requires { ⌜ Classes (now classes) ⌝ }
     ensures { λ r. ⌜ Reads twoOperands (now (text .entry)) p (now (words .entry)) r (now (words .exit)) ⌝ }
 {

@@ -1,0 +1,159 @@
+// The reader of the head (parser.rs, `parse_param_list` and the front of `parse_define`).
+use directory::pieces::Piece;
+use lexer::Cursor;
+use lexer::Parsed;
+use types::Listed;
+ghost use mathlib.Core.Path.{_≡_};
+ghost use mathlib.Core.List.{[]};
+ghost use Prim.Native.Nat.{ℕ, _≤_, _<_};
+ghost use lib.ListN.{length};
+ghost use Rattle.grammar.specs.Types.{listed};
+ghost use Rattle.grammar.specs.Body.{parseParam, parseParamList, parseHead};
+ghost use Rattle.grammar.specs.Again.{headAt};
+ghost use Rattle.lexer.specs.Table.{Classes};
+ghost use Rattle.lexer.specs.Reads.{Leads, made};
+ghost use Rattle.directory.specs.Piece.{HeadIs};
+ghost use Rattle.head.specs.Reading.{parameter, shuts, pieceOf};
+
+// A parameter: a type, attributes, and a name where one stands. The name's word stands before the type's.
+fn parse_param(classes: &[u8; 256], text: &[u8], words: &mut [u64], p: Parsed) -> Parsed
+    requires { ⌜ Classes (now classes) ⌝ }
+    ensures { λ r. ⌜ ((q : ℕ) → Leads (parseParam q) 2 [] (parameter q (now (text .entry)) p) (now (text .entry)) p p (now (words .entry)) r (now (words .exit))) ⌝ }
+{
+    let p1 = lexer::push(words, p, 0);
+    let p2 = lexer::push(words, p1, 0);
+    let p3 = types::parse_type(classes, text, words, p2, 64);
+    let p4 = attributes::skip_attrs(classes, text, p3);
+    let p5 = lexer::eat_ws(classes, text, p4);
+    if lexer::looks(text, p5, 37) {
+        let p6 = lexer::pass(text, p5, 1);
+        let n = lexer::name_word(classes, text, p6);
+        let p7 = n.p;
+        let p8 = lexer::patch(words, p, p7, 1, n.v);
+        return lexer::close(words, p, p8, 62, 1, 1);
+    }
+    lexer::close(words, p, p5, 62, 0, 1)
+}
+
+// Parameters, `...` in the last place, through the parenthesis (`parse_param_list`). The return type is a child before them.
+fn parse_param_list(classes: &[u8; 256], text: &[u8], words: &mut [u64], p: Parsed) -> Listed
+    requires { ⌜ Classes (now classes) ⌝ }
+    ensures { λ r. ⌜ Leads parseParamList 2 [] (made (listed (r .n) (r .dots)) (now (text .entry)) p) (now (text .entry)) p p (now (words .entry)) (r .p) (now (words .exit)) × (r .dots ≤ 1) ⌝ }
+{
+    let mut q = lexer::eat_ws(classes, text, p);
+    if lexer::looks(text, q, 41) {
+        let q1 = lexer::pass(text, q, 1);
+        return Listed {
+            p: q1,
+            n: 1,
+            dots: 0,
+        };
+    }
+    let mut left: u16 = 65534;
+    let mut n: u16 = 1;
+    while 0 < left {
+        let q1 = lexer::eat_ws(classes, text, q);
+        if lexer::looks(text, q1, 46) {
+            let q2 = lexer::three_dots(text, q1, 5);
+            let q3 = lexer::expect_token(classes, text, q2, 41);
+            return Listed { p: q3, n, dots: 1 };
+        }
+        let q2 = parse_param(classes, text, words, q1);
+        let q3 = lexer::eat_ws(classes, text, q2);
+        if lexer::looks(text, q3, 44) {
+            q = lexer::pass(text, q3, 1);
+            left -= 1;
+            n = types::one_more(n);
+        } else {
+            if lexer::looks(text, q3, 41) {
+                let q4 = lexer::pass(text, q3, 1);
+                let m = types::one_more(n);
+                return Listed {
+                    p: q4,
+                    n: m,
+                    dots: 0,
+                };
+            }
+            let q4 = lexer::refuse(q3, 3);
+            return Listed {
+                p: q4,
+                n: 1,
+                dots: 0,
+            };
+        }
+    }
+    let q1 = lexer::eat_ws(classes, text, q);
+    if lexer::looks(text, q1, 46) {
+        let q2 = lexer::three_dots(text, q1, 5);
+        let q3 = lexer::expect_token(classes, text, q2, 41);
+        return Listed { p: q3, n, dots: 1 };
+    }
+    let q2 = parse_param(classes, text, words, q1);
+    let q3 = lexer::refuse(q2, 19);
+    Listed {
+        p: q3,
+        n: 1,
+        dots: 0,
+    }
+}
+
+// A linkage's rank as a byte.
+fn rank_byte(rank: usize) -> u8
+    ensures { λ r. ⌜ ((rank < 11 → r ≡ rank) × (r < 11)) ⌝ }
+{
+    if rank < 11 {
+        return rank as u8;
+    }
+    10
+}
+
+// The head, through the `{`. The name's word stands before the type's, so its slot is filled behind the type.
+fn head_node(classes: &[u8; 256], text: &[u8], words: &mut [u64], p: Parsed) -> Parsed
+    requires { ⌜ Classes (now classes) ⌝ }
+    ensures { λ r. ⌜ Leads parseHead 2 [] (shuts (now (text .entry)) p) (now (text .entry)) p p (now (words .entry)) r (now (words .exit)) ⌝ }
+{
+    let p1 = lexer::push(words, p, 0);
+    let p2 = lexer::push(words, p1, 0);
+    let k = attributes::parse_linkage(classes, text, p2);
+    let linkage = rank_byte(k.r);
+    let p3 = k.p;
+    let p4 = attributes::skip_attrs(classes, text, p3);
+    let p5 = attributes::skip_call_cconv(classes, text, p4);
+    let p6 = attributes::skip_attrs(classes, text, p5);
+    let p7 = types::parse_type(classes, text, words, p6, 64);
+    let name = lexer::parse_global_name(classes, text, p7);
+    let p8 = name.p;
+    let p9 = lexer::patch(words, p, p8, 1, name.v);
+    let p10 = lexer::expect_token(classes, text, p9, 40);
+    let l = parse_param_list(classes, text, words, p10);
+    let p11 = l.p;
+    let dots = l.dots;
+    let p12 = attributes::skip_attrs(classes, text, p11);
+    let p13 = lexer::eat_ws(classes, text, p12);
+    if lexer::looks(text, p13, 123) {
+        let p14 = lexer::pass(text, p13, 1);
+        let detail = linkage + 128 * dots;
+        return lexer::close(words, p, p14, 60, detail, l.n);
+    }
+    lexer::refuse(p13, 3)
+}
+
+// The answer of a piece that is closed.
+fn piece_of(p: Parsed) -> Piece
+    ensures { λ r. ⌜ r ≡ pieceOf p ⌝ }
+{
+    match p {
+        Parsed::Ok(c) => Piece::Read(c.at, c.w),
+        Parsed::Refused(e, q) => Piece::Refused(e, q as u64),
+    }
+}
+
+// The head at the start of a text, its words at the start of `words`, as far as these reach.
+pub fn parse_head(classes: &[u8; 256], text: &[u8], words: &mut [u64]) -> Piece
+    requires { ⌜ Classes (now classes) × (length (now text) ≤ 16777216) ⌝ }
+    ensures { λ r. ⌜ HeadIs (headAt (now (text .entry))) r (now (words .exit)) × (length (now (words .exit)) ≡ length (now (words .entry))) ⌝ }
+{
+    let p = Parsed::Ok(Cursor { at: 0, w: 0 });
+    let q = head_node(classes, text, words, p);
+    piece_of(q)
+}

@@ -1,0 +1,255 @@
+-- The laws of an alloca's parts and of a switch's cases.
+-- Assumes nothing.
+use mathlib.Core.Path.{_≡_, refl, sym, ap, _∙_, subst}
+use mathlib.Core.Bool.{Bool, true, false}
+use mathlib.Core.List.{List, [], _∷_, _++_, append-assoc, append-nil}
+use mathlib.Core.Option.{Option, none, some}
+use Prim.Native.Nat.{ℕ, zero, suc, _+_, _-_, _*_, _/_, _^_, _≤_, _<_}
+use native.Mathlib.Omega.{arith}
+use lib.Dec.{ltb, eqb}
+use lib.ListN.{length, getD, drop, length-append}
+use borrow.Author.Tests.{lt-ltb, le-ltb, ltb-true, ltb-false, eq-eqb, ne-eqb}
+use Rattle.program.specs.Choice.{pick}
+use Rattle.program.specs.Prog.{Prog, ret, Res, ok, closed, no-at, run, _>>=_}
+use Rattle.records.specs.Words.{node, header}
+use Rattle.grammar.specs.Lexer.{eatWs, refuse, expectToken, expectKeyword, parseLocalName}
+use Rattle.grammar.specs.Instructions.{labelNode, parseOperand, target, AllocaRest, allocaParts, allocaRest, allocaNode, caseWords, caseInt, Cases, cases, switchCases, switchNode}
+use Rattle.lexer.specs.Step.{joined, looksP, passed, refused, pushed, pushes, closes, restarted}
+use Rattle.lexer.specs.Reads.{Budget, Stands, At, Ends, at, out, Leads, Goal, made, same, Inside, Gave, got, not, Gives}
+use Rattle.lexer.specs.declared.Cursor.{Cursor}
+use Rattle.lexer.specs.declared.Parsed.{Parsed}
+use Rattle.lexer.specs.declared.Parsed.the-variants.{Ok, Refused}
+use Rattle.lexer.proofs.Laws.{after, bind-at, at-less, more, no-more, Passes, val, val-paid, token-yes, token-no, push-then, spare, fail-is, close-is}
+use Rattle.lexer.proofs.Passed.{passes-then, passes-token, passes-keyword, passes-local}
+use Rattle.clauses.specs.Clause.{alignOf}
+use Rattle.orders.specs.Kept.{Keeps, keeps, keeps-not, kept, nothing}
+use Rattle.orders.specs.Parts.{counted, alignedP, aligns, takenP}
+use Rattle.orders.proofs.Twice.{Written, Shows, kept-here, write-then}
+
+-- ---- alloca
+no-none : {B : Type 0} (x : List ℕ) → none ≡ some x → B
+no-none x e = absurd (let z : _≡_ {A = ℕ} 0 1 = cc in omega arith)
+
+counted-some : (n : ℕ) (x : List ℕ) → (n ≡ 0 → ⊥) → counted n x ≡ some x
+unfolding counted
+counted-some zero x h = absurd (h refl)
+counted-some (suc n) x h = refl
+
+counted-same : (m : ℕ) (us ws : List ℕ) → counted m us ≡ some ws → us ≡ ws
+unfolding counted
+counted-same zero us ws e = no-none ws e
+counted-same (suc m) us ws e = cc
+
+parts-same : (a b : Option (List ℕ)) (x y : List ℕ) (i j : ℕ) → ok (allocaParts a x) i ≡ ok (allocaParts b y) j → a ≡ b
+parts-same a b x y i j e = cc
+
+no-parts : {A B : Type 0} (a : A) (i e x : ℕ) → ok a i ≡ no-at e x → B
+no-parts a i e x h = absurd (let z : _≡_ {A = ℕ} 0 1 = cc in omega arith)
+
+-- the count is read again
+pub shows-count : (n m : ℕ) (ws al bl : List ℕ) {text : List ℕ} {z : Parsed} → (n ≡ 0 → ⊥) → Shows (made (λ us. allocaParts (counted m us) bl) text z) (allocaParts (counted n ws) al) ws text z
+shows-count n m ws al bl {text} {z} h b k low _ _ _ j e (at {ws = us} {cur = cur} {words = words} a) =
+    let s : us ≡ ws = counted-same m us ws (parts-same (counted m us) (counted n ws) bl al (cur .at) j e ∙ counted-some n ws h) in
+    record { cur = cur; is = refl; at = subst (λ (l : List ℕ). At b text z k low l cur words) s a }
+shows-count n m ws al bl h b k low _ _ _ j e (out {e = en} {q = x}) = no-parts (allocaParts (counted n ws) al) j en x (sym e)
+
+pub align-then : {A : Type 0} {f : Prog A} (has v : ℕ) {c : ℕ} {mid : List ℕ} {E : Goal A} {text : List ℕ} {p0 p q p′ : Parsed} {w w1 w′ : List ℕ} → (q ≡ alignedP has p) × (w1 ≡ aligns has v p w) → Leads f c (mid ++ alignOf has v) E text p0 q w1 p′ w′ → Leads f (suc c) mid E text p0 p w p′ w′
+unfolding alignedP aligns alignOf
+align-then {A} {f} zero v {c} {mid} {E} {text} {p0} {p} {q} {p′} {w} {w1} {w′} e r =
+    let n : Leads f c mid E text p0 q w1 p′ w′ = subst (λ (l : List ℕ). Leads f c l E text p0 q w1 p′ w′) (append-nil mid) r in
+    let m : Leads f c mid E text p0 p w1 p′ w′ = subst (λ (y : Parsed). Leads f c mid E text p0 y w1 p′ w′) (e .0) n in
+    spare c (omega arith) (subst (λ (y : List ℕ). Leads f c mid E text p0 p y p′ w′) (e .1) m)
+align-then (suc has) v e r = push-then v e r
+
+pub alloca-none : (dest n d : ℕ) (t ws al : List ℕ) {c : ℕ} {text : List ℕ} {p0 p q : Parsed} {w w′ : List ℕ} → n ≡ 0 → d ≡ length al * 2 → (q ≡ p) × (w′ ≡ closes 41 d 1 p0 p w) → Leads (ret (allocaNode dest t (allocaParts (counted n ws) al))) c (0 ∷ dest ∷ (al ++ t)) (made same text p0) text p0 p w q w′
+unfolding allocaNode counted
+alloca-none dest n d t ws al {c} {text} {p0} {p} {q} {w} {w′} e f h = rw (e, ← f) (close-is 41 d 1 (dest ∷ (al ++ t)) h)
+
+pub alloca-some : (dest n d d1 : ℕ) (t ws al : List ℕ) {c : ℕ} {text : List ℕ} {p0 p q : Parsed} {w w′ : List ℕ} → (n ≡ 0 → ⊥) → d ≡ length al * 2 → d1 ≡ 1 + d → (q ≡ p) × (w′ ≡ closes 41 d1 3 p0 p w) → Leads (ret (allocaNode dest t (allocaParts (counted n ws) al))) c (0 ∷ dest ∷ ((al ++ t) ++ ws)) (made same text p0) text p0 p w q w′
+unfolding allocaNode
+alloca-some dest n d d1 t ws al {c} {text} {p0} {p} {q} {w} {w′} e f g h = rw (counted-some n ws e, ← f, ← g) (close-is 41 d1 3 (dest ∷ ((al ++ t) ++ ws)) h)
+
+-- the bit of an alignment is 0 or 2
+pub bit-is : (has v d : ℕ) → d ≡ length (alignOf has v) * 2 → {d1 : ℕ} → (d ≡ 0 → d1 ≡ 1) × (d ≡ 2 → d1 ≡ 3) → d1 ≡ 1 + d
+unfolding alignOf
+bit-is zero v d e h = h .0 e ∙ rw e
+bit-is (suc n) v d e h = h .1 e ∙ rw e
+
+-- ---- a case's integer
+-- what the value is, as its first words stand in the array, or that it is refused
+pub data Valued (text : List ℕ) (q : Parsed) (v : List ℕ) (cur : Cursor) : Res (List ℕ) → Type 0 where
+  value-is : (ws : List ℕ) (ct : Cursor) → q ≡ Ok ct → cur .at ≤ ct .at → ct .at ≤ length text → ((i : ℕ) → i < 3 → takenP i q v ≡ getD ws i 0) → Valued text q v cur (ok ws (ct .at))
+  value-not : (e x : ℕ) → q ≡ Refused e x → Valued text q v cur (no-at e x)
+
+beyond : (ws : List ℕ) (i : ℕ) → length ws ≤ i → getD ws i 0 ≡ 0
+beyond [] i h = refl
+beyond (x ∷ ws) zero h = absurd (omega arith)
+beyond (x ∷ ws) (suc i) h = beyond ws i (omega arith)
+
+abbrev poor : Budget
+poor = record { base = 0; rate = 3; enough = omega arith }
+
+valued : (text : List ℕ) (p z q : Parsed) (v : List ℕ) → z ≡ restarted p → Leads parseOperand 0 [] (made same text z) text z z (0 ∷ 0 ∷ 0 ∷ []) q v → length v ≡ 3 → (cur : Cursor) → p ≡ Ok cur → Inside text cur → Valued text q v cur (run parseOperand (cur .at) (drop (cur .at) text))
+valued text p z q v Z R long cur e i = go refl (R .runs poor [] (3 * cur .at) (record { at = cur .at; w = 0 }) (Z ∙ ap restarted e) start)
+  where
+    start : At poor text z (0 + 3 * cur .at) [] [] (record { at = cur .at; w = 0 }) (0 ∷ 0 ∷ 0 ∷ [])
+    start = record {
+      from = record { at = cur .at; w = 0 };
+      was = Z ∙ ap restarted e;
+      base = refl;
+      small = i .small;
+      lid = omega (arith, i .small);
+      inside = i .inside;
+      count = refl;
+      paid = omega arith;
+      stands = record { same = λ j h l. absurd (omega arith) };
+    }
+
+    go : {y : Parsed} {r : Res (List ℕ)} → q ≡ y → Ends poor text z (3 * cur .at) [] same r y v → Valued text q v cur r
+    go s (at {ws = ws} {cur = ct} x) = value-is ws ct s (omega (arith, x .paid)) (x .inside) word
+      where
+        word : (j : ℕ) → j < 3 → takenP j q v ≡ getD ws j 0
+        word j h = ap (λ (y : Parsed). takenP j y v) s ∙ pick-word (ltb j (ct .w)) refl
+          where
+            pick-word : (t : Bool) → ltb j (ct .w) ≡ t → pick t (getD v j 0) 0 ≡ getD ws j 0
+            pick-word true t = x .stands .same j (omega (arith, x .count, ltb-true j (ct .w) t)) (omega arith)
+            pick-word false t = sym (beyond ws j (omega (arith, x .count, ltb-false j (ct .w) t)))
+    go s (out {e = en} {q = xn}) = value-not en xn s
+
+module _ (text : List ℕ) (p z q q1 : Parsed) (v : List ℕ) (Z : z ≡ restarted p) (R : Leads parseOperand 0 [] (made same text z) text z z (0 ∷ 0 ∷ 0 ∷ []) q v) (long : length v ≡ 3) (J : q1 ≡ joined p q) (h hi lo : ℕ) (H : h ≡ takenP 0 q v) (HI : hi ≡ takenP 1 q v) (LO : lo ≡ takenP 2 q v) where
+  pub case-yes : h / 72057594037927936 ≡ 18 → Gives caseInt (hi ∷ lo ∷ []) text p q1
+  unfolding after caseInt caseWords run
+  case-yes y = record {
+    runs = λ cur e i. subst (λ (r : Res (List ℕ)). Gave text (hi ∷ lo ∷ []) (cur .at) (cur .w) r q1) (sym (bind-at parseOperand (λ v. caseWords v) text (cur .at))) (go cur (J ∙ ap (λ (y : Parsed). joined y q) e) (valued text p z q v Z R long cur e i));
+    hands = λ e x i. J ∙ ap (λ (y : Parsed). joined y q) i;
+  }
+    where
+      go : (cur : Cursor) → q1 ≡ joined (Ok cur) q → {r : Res (List ℕ)} → Valued text q v cur r → Gave text (hi ∷ lo ∷ []) (cur .at) (cur .w) (after (λ v. caseWords v) text r) q1
+      go cur j (value-is ws ct s l m t) =
+          let k : eqb (getD ws 0 0 / 72057594037927936) 18 ≡ true = eq-eqb _ _ (ap (λ (n : ℕ). n / 72057594037927936) (sym (t 0 (omega arith)) ∙ sym H) ∙ y) in
+          let a : getD ws 1 0 ≡ hi = sym (t 1 (omega arith)) ∙ sym HI in
+          let b : getD ws 2 0 ≡ lo = sym (t 2 (omega arith)) ∙ sym LO in
+          let o : q1 ≡ Ok (record { at = ct .at; w = cur .w }) = j ∙ ap (joined (Ok cur)) s in
+          rw (o, caseWords, k, a, b) (got {cur = record { at = ct .at; w = cur .w }} l m refl)
+      go cur j (value-not e x s) = let o : q1 ≡ Refused e x = j ∙ ap (joined (Ok cur)) s in rw o not
+
+  pub case-no : {q2 : Parsed} → (h / 72057594037927936 ≡ 18 → ⊥) → q2 ≡ refused 12 q1 → Gives caseInt (hi ∷ lo ∷ []) text p q2
+  unfolding after caseInt caseWords run refuse
+  case-no {q2} y f = record {
+    runs = λ cur e i. subst (λ (r : Res (List ℕ)). Gave text (hi ∷ lo ∷ []) (cur .at) (cur .w) r q2) (sym (bind-at parseOperand (λ v. caseWords v) text (cur .at))) (go cur (J ∙ ap (λ (y : Parsed). joined y q) e) (valued text p z q v Z R long cur e i));
+    hands = λ e x i. f ∙ ap (refused 12) (J ∙ ap (λ (y : Parsed). joined y q) i);
+  }
+    where
+      go : (cur : Cursor) → q1 ≡ joined (Ok cur) q → {r : Res (List ℕ)} → Valued text q v cur r → Gave text (hi ∷ lo ∷ []) (cur .at) (cur .w) (after (λ v. caseWords v) text r) q2
+      go cur j (value-is ws ct s l m t) =
+          let k : eqb (getD ws 0 0 / 72057594037927936) 18 ≡ false = ne-eqb _ _ (λ z. y (ap (λ (n : ℕ). n / 72057594037927936) (H ∙ t 0 (omega arith)) ∙ z)) in
+          let o : q2 ≡ Refused 12 (ct .at) = f ∙ ap (refused 12) (j ∙ ap (joined (Ok cur)) s) in
+          rw (o, caseWords, k) not
+      go cur j (value-not e x s) = let o : q2 ≡ Refused e x = f ∙ ap (refused 12) (j ∙ ap (joined (Ok cur)) s) in rw o not
+
+-- ---- the cases
+passes-target : Passes 8 target
+unfolding target
+passes-target = passes-then (expectToken 44) _ 1 7 (passes-token 44) (λ _. passes-then (expectKeyword (108 ∷ 97 ∷ 98 ∷ 101 ∷ 108 ∷ [])) _ 5 2 (passes-keyword (108 ∷ 97 ∷ 98 ∷ 101 ∷ 108 ∷ [])) (λ _. passes-local))
+
+label-long : (labels : List ℕ) (l : ℕ) → length (labels ++ labelNode l) ≡ length labels + 2
+unfolding labelNode node
+label-long labels l = length-append labels (labelNode l)
+
+module _ (u n : ℕ) (ints labels : List ℕ) {text : List ℕ} {p0 q q1 : Parsed} {w : List ℕ} (gw : Gives eatWs tt text q q1) where
+  pub ints-end : {z : Bool} {q2 : Parsed} → z ≡ looksP text q1 93 → z ≡ true → q2 ≡ passed text 1 q1 → Leads (switchCases u n ints labels) (length labels) ints (kept (λ labels ints. ret (cases n ints labels)) length text p0) text p0 q w q2 w
+  unfolding switchCases
+  ints-end {z} {q2} l y x = go u
+    where
+      go : (u : ℕ) → Leads (switchCases u n ints labels) (length labels) ints (kept (λ labels ints. ret (cases n ints labels)) length text p0) text p0 q w q2 w
+      go zero = token-yes _ _ gw l y x (kept-here (λ labels ints. ret (cases n ints labels)) length labels (omega arith))
+      go (suc u) = token-yes _ _ gw l y x (kept-here (λ labels ints. ret (cases n ints labels)) length labels (omega arith))
+
+  pub labels-end : {z : Bool} {q2 : Parsed} → z ≡ looksP text q1 93 → z ≡ true → q2 ≡ passed text 1 q1 → Leads (switchCases u n ints labels) 0 labels (kept (λ ints labels. ret (cases n ints labels)) nothing text p0) text p0 q w q2 w
+  unfolding switchCases
+  labels-end {z} {q2} l y x = go u
+    where
+      go : (u : ℕ) → Leads (switchCases u n ints labels) 0 labels (kept (λ ints labels. ret (cases n ints labels)) nothing text p0) text p0 q w q2 w
+      go zero = token-yes _ _ gw l y x (kept-here (λ ints labels. ret (cases n ints labels)) nothing ints (omega arith))
+      go (suc u) = token-yes _ _ gw l y x (kept-here (λ ints labels. ret (cases n ints labels)) nothing ints (omega arith))
+
+  module _ {z : Bool} {q2 q3 : Parsed} {hi lo name : ℕ} (l : z ≡ looksP text q1 93) (y : z ≡ false) (gc : Gives caseInt (hi ∷ lo ∷ []) text q1 q2) (gt : Gives target name text q2 q3) where
+    pub cases-out : {E : Goal Cases} {c : ℕ} {mid : List ℕ} {q4 : Parsed} → u ≤ 0 → q4 ≡ refused 19 q3 → Leads (switchCases u n ints labels) c mid E text p0 q w q4 w
+    unfolding switchCases
+    cases-out h x = no-more (λ t. switchCases t n ints labels) u h (token-no _ _ gw l y (val _ gc (val _ gt (fail-is _ x))))
+
+    pub ints-more : (m : ℕ) {q4 q5 : Parsed} {w1 w2 : List ℕ} → 0 < u → m ≡ n + 1 → (q4 ≡ pushed q3) × (w1 ≡ pushes hi q3 w) → (q5 ≡ pushed q4) × (w2 ≡ pushes lo q4 w1)
+        → Leads (switchCases u n ints labels) (length labels) ints (kept (λ labels ints. switchCases (u - 1) m ints labels) length text p0) text p0 q w q5 w2
+    unfolding switchCases
+    ints-more m {q4} {q5} {w1} {w2} h e a b =
+        more (λ t. switchCases t n ints labels) u h
+        (token-no _ _ gw l y (val _ gc (val-paid _ 8 passes-target gt (spare (suc (suc (length labels + 2))) (omega arith) (push-then hi a (push-then lo b
+        (subst (λ (t : List ℕ). Leads (switchCases (u - 1) (n + 1) t (labels ++ labelNode name)) (length labels + 2) ((ints ++ (hi ∷ [])) ++ (lo ∷ [])) (kept (λ labels ints. switchCases (u - 1) m ints labels) length text p0) text p0 q5 w2 q5 w2) (append-assoc ints (hi ∷ []) (lo ∷ []))
+        (subst (λ (t : ℕ). Leads (switchCases (u - 1) t ((ints ++ (hi ∷ [])) ++ (lo ∷ [])) (labels ++ labelNode name)) (length labels + 2) ((ints ++ (hi ∷ [])) ++ (lo ∷ [])) (kept (λ labels ints. switchCases (u - 1) m ints labels) length text p0) text p0 q5 w2 q5 w2) e
+        (kept-here (λ labels ints. switchCases (u - 1) m ints labels) length (labels ++ labelNode name) (omega (arith, label-long labels name)))))))))))
+
+    pub labels-more : (m : ℕ) {q4 : Parsed} {w1 : List ℕ} → 0 < u → m ≡ n + 1 → Leads (ret (labelNode name)) 2 [] (made same text q3) text q3 q3 w q4 w1
+        → Leads (switchCases u n ints labels) 0 labels (kept (λ ints labels. switchCases (u - 1) m ints labels) nothing text p0) text p0 q w q4 w1
+    unfolding switchCases
+    labels-more m {q4} {w1} h e a =
+        more (λ t. switchCases t n ints labels) u h
+        (token-no _ _ gw l y (val _ gc (val-paid _ 8 passes-target gt (spare (2 + 0) (omega arith) (write-then (labelNode name) 2 a
+        (subst (λ (t : ℕ). Leads (switchCases (u - 1) t (ints ++ (hi ∷ lo ∷ [])) (labels ++ labelNode name)) 0 (labels ++ labelNode name) (kept (λ ints labels. switchCases (u - 1) m ints labels) nothing text p0) text p0 q4 w1 q4 w1) e
+        (kept-here (λ ints labels. switchCases (u - 1) m ints labels) nothing (ints ++ (hi ∷ lo ∷ [])) (omega arith))))))))
+
+-- the labels are read again
+cases-same : (n m : ℕ) (x y a b : List ℕ) (i j : ℕ) → ok (cases n x a) i ≡ ok (cases m y b) j → a ≡ b
+cases-same n m x y a b i j e = cc
+
+pub shows-labels : (n m : ℕ) (ints labels : List ℕ) {text : List ℕ} {z : Parsed} → Shows (kept (λ ints labels. ret (cases m ints labels)) nothing text z) (cases n ints labels) labels text z
+unfolding run
+shows-labels n m ints labels {text} {z} b k low _ _ _ j e (keeps x {mid = us} {cur = cur} {words = words} a) =
+    record { cur = cur; is = refl; at = subst (λ (l : List ℕ). At b text z k low l cur words) (cases-same m n x ints us labels (cur .at) j e) (at-less k (omega arith) a) }
+shows-labels n m ints labels b k low _ _ _ j e (keeps-not {e = en} {q = x}) = no-parts (cases n ints labels) j en x (sym e)
+
+-- ---- the small functions
+pub bit-two : (has v : ℕ) → (has ≡ 0 → ⊥) → 2 ≡ length (alignOf has v) * 2
+unfolding alignOf
+bit-two zero v h = absurd (h refl)
+bit-two (suc n) v h = refl
+
+pub bit-none : (has v : ℕ) → has ≡ 0 → 0 ≡ length (alignOf has v) * 2
+unfolding alignOf
+bit-none zero v h = refl
+bit-none (suc n) v h = absurd (omega arith)
+
+pub no-align : (has v : ℕ) (p : Parsed) (w : List ℕ) → has ≡ 0 → (p ≡ alignedP has p) × (w ≡ aligns has v p w)
+unfolding alignedP aligns
+no-align zero v p w h = (refl, refl)
+no-align (suc n) v p w h = absurd (omega arith)
+
+pub some-align : (has v : ℕ) (p : Parsed) (w : List ℕ) {q : Parsed} {w1 : List ℕ} → (has ≡ 0 → ⊥) → (q ≡ pushed p) × (w1 ≡ pushes v p w) → (q ≡ alignedP has p) × (w1 ≡ aligns has v p w)
+unfolding alignedP aligns
+some-align zero v p w h e = absurd (h refl)
+some-align (suc n) v p w h e = e
+
+pub taken-in : (i : ℕ) (c : Cursor) (q : Parsed) (w : List ℕ) → q ≡ Ok c → i < c .w → getD w i 0 ≡ takenP i q w
+taken-in i c q w e h = rw (e, lt-ltb _ _ h)
+
+pub taken-past : (i : ℕ) (c : Cursor) (q : Parsed) (w : List ℕ) → q ≡ Ok c → length w ≤ i → 0 ≡ takenP i q w
+taken-past i c q w e l = go (ltb i (c .w)) refl
+  where
+    go : (b : Bool) → ltb i (c .w) ≡ b → 0 ≡ takenP i q w
+    go true t = rw (e, t) (sym (beyond w i l))
+    go false t = rw (e, t)
+
+pub taken-out : (i : ℕ) (c : Cursor) (q : Parsed) (w : List ℕ) → q ≡ Ok c → c .w ≤ i → 0 ≡ takenP i q w
+taken-out i c q w e h = rw (e, le-ltb _ _ h)
+
+pub switch-close : (x ints labels : List ℕ) (def n m : ℕ) {c : ℕ} {text : List ℕ} {p0 p q : Parsed} {w w′ : List ℕ} → m ≡ 3 + n → (q ≡ p) × (w′ ≡ closes 54 0 m p0 p w) → Leads (ret (switchNode x def (cases n ints labels))) c (0 ∷ (((ints ++ x) ++ labelNode def) ++ labels)) (made same text p0) text p0 p w q w′
+unfolding switchNode
+switch-close x ints labels def n m e h = rw (← e) (close-is 54 0 m (((ints ++ x) ++ labelNode def) ++ labels) h)
+
+-- refusals are handed on
+pub joined-out : (p q : Parsed) {r : Parsed} → r ≡ joined p q → (e x : ℕ) → p ≡ Refused e x → r ≡ Refused e x
+joined-out p q j e x i = j ∙ ap (λ (z : Parsed). joined z q) i
+
+pub align-out : (has v : ℕ) (p : Parsed) (w : List ℕ) {q : Parsed} {w1 : List ℕ} → (q ≡ alignedP has p) × (w1 ≡ aligns has v p w) → (e x : ℕ) → p ≡ Refused e x → q ≡ Refused e x
+unfolding alignedP
+align-out zero v p w h e x i = h .0 ∙ i
+align-out (suc n) v p w h e x i = h .0 ∙ ap pushed i

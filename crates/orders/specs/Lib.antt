@@ -1,0 +1,4 @@
+pub mod Dry
+pub mod Found
+pub mod Kept
+pub mod Parts

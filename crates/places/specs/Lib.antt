@@ -1,0 +1,9 @@
+pub mod Inside
+pub mod Lexer
+pub mod Numbers
+pub mod Attributes
+pub mod Types
+pub mod Values
+pub mod Instructions
+pub mod Body
+pub mod Places
