@@ -1,0 +1,149 @@
+// Blocks and the tail (parser.rs `parse_body`): a piece from its first statement through its terminator or `}`.
+use directory::pieces::Piece;
+use lexer::Cursor;
+use lexer::Parsed;
+ghost use mathlib.Core.Path.{_≡_};
+ghost use mathlib.Core.List.{List, [], _∷_, _++_};
+ghost use Prim.Native.Nat.{ℕ, _≤_};
+ghost use lib.ListN.{length};
+ghost use Rattle.grammar.specs.Lexer.{turns};
+ghost use Rattle.grammar.specs.Body.{overAt, finishBlock, parseBody};
+ghost use Rattle.grammar.specs.Again.{blockAt};
+ghost use Rattle.lexer.specs.Table.{Classes};
+ghost use Rattle.lexer.specs.Reads.{Leads, made, same};
+ghost use Rattle.instructions.specs.Rich.{richly};
+ghost use Rattle.directory.specs.Piece.{BlockIs};
+ghost use Rattle.blocks.specs.Bodied.{bodied, asBlock, asTail};
+
+// Where the reader is behind a body: is it the tail; else the last label, how many instructions, the place behind the 65,536th.
+pub struct Body {
+    pub p: Parsed,
+    pub tail: bool,
+    pub label: u64,
+    pub n: usize,
+    pub over: usize,
+}
+
+// The place behind the 65,536th instruction, once it is read.
+fn over_at(n: usize, over: usize, at: usize) -> usize
+    ensures { λ r. ⌜ r ≡ overAt n over at ⌝ }
+{
+    if n == 65535 { at } else { over }
+}
+
+// Statements through a terminator or `}`.
+fn parse_body(classes: &[u8; 256], text: &[u8], words: &mut [u64], p: Parsed) -> Body
+    requires { ⌜ Classes (now classes) ⌝ }
+    ensures { λ r. ⌜ Leads (parseBody turns 0 0 0 []) 0 [] (richly (now (text .entry)) (bodied (r .tail) (r .label) (r .n) (r .over) (now (text .entry)) p)) (now (text .entry)) p p (now (words .entry)) (r .p) (now (words .exit)) ⌝ }
+{
+    let mut q = p;
+    let mut label: u64 = 0;
+    let mut n: usize = 0;
+    let mut over: usize = 0;
+    let mut left: usize = 16777217;
+    while 0 < left {
+        let q1 = lexer::eat_ws(classes, text, q);
+        if lexer::looks(text, q1, 125) {
+            let q2 = lexer::pass(text, q1, 1);
+            return Body {
+                p: q2,
+                tail: true,
+                label,
+                n,
+                over,
+            };
+        }
+        let s = statements::parse_statement(classes, text, words, q1);
+        let q2 = s.p;
+        let kind = s.kind;
+        if kind == 0 {
+            q = q2;
+            label = s.label;
+            left -= 1;
+        } else {
+            if kind == 1 {
+                let at = lexer::place(q2);
+                q = q2;
+                over = over_at(n, over, at);
+                n += 1;
+                left -= 1;
+            } else {
+                return Body {
+                    p: q2,
+                    tail: false,
+                    label,
+                    n,
+                    over,
+                };
+            }
+        }
+    }
+    let q1 = lexer::refuse(q, 8);
+    Body {
+        p: q1,
+        tail: false,
+        label,
+        n,
+        over,
+    }
+}
+
+// The block that was begun at p0: its label, and its header, or 19.
+fn finish_block(
+    words: &mut [u64],
+    p0: Parsed,
+    p: Parsed,
+    label: u64,
+    n: usize,
+    over: usize,
+) -> Parsed
+    ensures { λ r. ⌜ ((text acc term : List ℕ) → Leads (finishBlock label n over acc term) 0 (0 ∷ (0 ∷ (acc ++ term))) (made same text p0) text p0 p (now (words .entry)) r (now (words .exit))) ⌝ }
+{
+    if n < 65535 {
+        let p1 = lexer::patch(words, p0, p, 1, label);
+        let m = (n + 1) as u16;
+        return lexer::close(words, p0, p1, 61, 0, m);
+    }
+    if 65535 < n {
+        return lexer::refuse_at(p, 19, over);
+    }
+    lexer::refuse(p, 19)
+}
+
+// The answer of a reader, as a block.
+fn as_block(p: Parsed) -> Piece
+    ensures { λ r. ⌜ r ≡ asBlock p ⌝ }
+{
+    match p {
+        Parsed::Ok(c) => Piece::Read(c.at, c.w),
+        Parsed::Refused(e, q) => Piece::Refused(e, q as u64),
+    }
+}
+
+// The answer of a reader, as the tail.
+fn as_tail(p: Parsed) -> Piece
+    ensures { λ r. ⌜ r ≡ asTail p ⌝ }
+{
+    match p {
+        Parsed::Ok(c) => Piece::Tail(c.at),
+        Parsed::Refused(e, q) => Piece::Refused(e, q as u64),
+    }
+}
+
+// A block or the tail, from the start of the text, its words from the start of the array: slots for the header and the label, the
+// instructions and the terminator.
+pub fn parse_block(classes: &[u8; 256], text: &[u8], words: &mut [u64]) -> Piece
+    requires { ⌜ Classes (now classes) × (length (now text) ≤ 16777216) ⌝ }
+    ensures { λ r. ⌜ BlockIs (blockAt (now (text .entry))) r (now (words .exit)) × (length (now (words .exit)) ≡ length (now (words .entry))) ⌝ }
+{
+    let p = Parsed::Ok(Cursor { at: 0, w: 0 });
+    let p1 = lexer::push(words, p, 0);
+    let p2 = lexer::push(words, p1, 0);
+    let b = parse_body(classes, text, words, p2);
+    let q = b.p;
+    if b.tail {
+        return as_tail(q);
+    }
+    let q1 = finish_block(words, p, q, b.label, b.n, b.over);
+    as_block(q1)
+}

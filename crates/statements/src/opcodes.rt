@@ -1,0 +1,38 @@
+// The rank of an opcode behind `%x =`: the most frequent ones are told by their first byte and one comparison, without a walk of the table.
+ghost use mathlib.Core.Path.{_≡_};
+ghost use Rattle.grammar.specs.Lexer.{rank, spelled};
+ghost use Rattle.lexer.specs.Table.{Classes};
+ghost use Rattle.lexer.specs.Names.{part, rawWord};
+ghost use Rattle.clauses.specs.Opcodes.{valueOpcodes};
+
+// The opcode that stands from a place to another, which is likely kw, whose rank is k.
+fn likely(classes: &[u8; 256], text: &[u8], from: usize, to: usize, kw: &[u8], k: u8) -> u8
+    requires { ⌜ (k ≡ rank (now kw) valueOpcodes) × Classes (now classes) ⌝ }
+    ensures { λ r. ⌜ r ≡ rank (spelled (rawWord (part (now (text .entry)) from to))) valueOpcodes ⌝ }
+{
+    if lexer::spells(classes, text, from, to, kw) {
+        return k;
+    }
+    clauses::value_opcode(classes, text, from, to)
+}
+
+// The opcode that stands from a place to another.
+pub fn value_rank(classes: &[u8; 256], text: &[u8], from: usize, to: usize) -> u8
+    requires { ⌜ Classes (now classes) ⌝ }
+    ensures { λ r. ⌜ r ≡ rank (spelled (rawWord (part (now (text .entry)) from to))) valueOpcodes ⌝ }
+{
+    if from < text.len() {
+        let b = text[from];
+        return match b {
+            108 => likely(classes, text, from, to, b"load", 34),
+            103 => likely(classes, text, from, to, b"getelementptr", 35),
+            99 => likely(classes, text, from, to, b"call", 39),
+            105 => likely(classes, text, from, to, b"icmp", 31),
+            112 => likely(classes, text, from, to, b"phi", 36),
+            116 => likely(classes, text, from, to, b"tail", 43),
+            122 => likely(classes, text, from, to, b"zext", 20),
+            _ => clauses::value_opcode(classes, text, from, to),
+        };
+    }
+    clauses::value_opcode(classes, text, from, to)
+}

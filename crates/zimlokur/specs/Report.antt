@@ -1,0 +1,27 @@
+-- What the calls from outside report, in 01's numbers.
+-- Assumes nothing.
+use mathlib.Core.Path.{_≡_}
+use mathlib.Core.List.{List}
+use Prim.Native.Nat.{ℕ}
+use Rattle.records.specs.Pieces.{Answer, no-at, count, Left, left, Again, again-left}
+
+-- the question that refuses, or 0; the place, 0 where it is accepted; the entry count, 0 where it is refused
+abbrev pub questionOf : Answer → ℕ
+questionOf (count n) = 0
+questionOf (no-at q p) = q
+
+abbrev pub placeOf : Answer → ℕ
+placeOf (count n) = 0
+placeOf (no-at q p) = p
+
+abbrev pub entriesOf : Answer → ℕ
+entriesOf (count n) = n
+entriesOf (no-at q p) = 0
+
+-- A full reading leaves l: what is returned, what stands at `place` and `entries`, both arrays.
+pub data Reports : Left → (r place entries : ℕ) (words dir : List ℕ) → Type 0 where
+  reports : {a : Answer} {words dir : List ℕ} → Reports (left a words dir) (questionOf a) (placeOf a) (entriesOf a) words dir
+
+-- A re-reading: also the number of the first piece read, and how many are read.
+pub data ReportsAgain : Again → (r place entries first many : ℕ) (words dir : List ℕ) → Type 0 where
+  reports-again : {a : Answer} {words dir : List ℕ} {first many : ℕ} → ReportsAgain (again-left (left a words dir) first many) (questionOf a) (placeOf a) (entriesOf a) first many words dir

@@ -1,0 +1,49 @@
+/* A controller's use of the reader: a cue is read, edited, and read again in the same arrays.
+ * Exits 0 if every answer is the one that the papers give. */
+#include "zimlokur.h"
+
+#include <stdio.h>
+#include <string.h>
+
+#define WORDS 64
+#define ENTRIES 8
+
+static uint64_t words[WORDS];
+static uint64_t directory[ENTRIES * 2];
+
+static int show(const char *what, const char *text, uint64_t refused, uint64_t place, uint64_t entries) {
+  if (refused) {
+    uint64_t line, column;
+    zimlokur_position((const uint8_t *)text, strlen(text), place, &line, &column);
+    printf("%s: refused %llu at line %llu column %llu\n", what, (unsigned long long)refused, (unsigned long long)line,
+           (unsigned long long)column);
+  } else {
+    printf("%s: %llu pieces\n", what, (unsigned long long)entries);
+  }
+  return 0;
+}
+
+int main(void) {
+  const char *cue = "void @f(){ret void}";
+  const char *edited = "void @f(){ret i32 7}";
+  const char *broken = "void @f(){ret i32}";
+  uint64_t place, entries, first, read;
+
+  uint64_t r = zimlokur_parse_define((const uint8_t *)cue, strlen(cue), words, WORDS, directory, ENTRIES * 2, &place, &entries);
+  show("cue", cue, r, place, entries);
+  if (r != 0 || entries != 3)
+    return 1;
+
+  r = zimlokur_reparse_define((const uint8_t *)cue, strlen(cue), (const uint8_t *)edited, strlen(edited), words, WORDS, directory,
+                              ENTRIES * 2, entries, &place, &entries, &first, &read);
+  show("edited", edited, r, place, entries);
+  printf("read %llu from piece %llu on\n", (unsigned long long)read, (unsigned long long)first);
+  if (r != 0 || entries != 3 || first != 1 || read != 1)
+    return 1;
+
+  r = zimlokur_parse_define((const uint8_t *)broken, strlen(broken), words, WORDS, directory, ENTRIES * 2, &place, &entries);
+  show("broken", broken, r, place, entries);
+  if (r != 6 || place != 17 || entries != 0 || words[0] != 0 || directory[0] != 0)
+    return 1;
+  return 0;
+}
