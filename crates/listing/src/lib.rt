@@ -24,7 +24,7 @@ fn all_words(directory: &[u64], n: usize) -> u64 {
             return end;
         }
         let y = directory[i * 2 + 1];
-        end = high(y) + low(y);
+        end = std::num::wrapping_add_u64(high(y), low(y));
         i += 1;
     }
     end
