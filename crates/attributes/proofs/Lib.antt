@@ -1,1 +1,2 @@
 mod AttrLaws
+pub mod LetterLaws

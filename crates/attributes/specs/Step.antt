@@ -1,13 +1,17 @@
 -- What the code of the attributes holds of their programs.
 -- Assumes nothing.
 use mathlib.Core.Path.{_≡_}
-use mathlib.Core.Bool.{Bool, true, false}
-use mathlib.Core.List.{List}
+use mathlib.Core.Bool.{Bool, true, false, _&&_}
+use mathlib.Core.List.{List, [], _∷_}
 use Prim.Native.Nat.{ℕ, suc}
+use lib.Dec.{leb}
+use lib.ListN.{drop}
 use Rattle.program.specs.Prog.{Prog, ret, scan}
 use Rattle.grammar.specs.Attributes.{groupStep, skipAttrsIn}
 use Rattle.lexer.specs.Reads.{Gives, Comes}
+use Rattle.lexer.specs.declared.Cursor.{Cursor}
 use Rattle.lexer.specs.declared.Parsed.{Parsed}
+use Rattle.lexer.specs.declared.Parsed.the-variants.{Ok, Refused}
 
 -- the digits behind `#`
 unfoldable pub groupDigits : Prog (Unit {0})
@@ -17,3 +21,17 @@ groupDigits = scan groupStep 0 (λ w. ret tt)
 pub record AttrStep (text : List ℕ) (p p′ : Parsed) (more : Bool) : Type 0 where
   pub again : more ≡ true → (u : ℕ) → Comes (skipAttrsIn (suc u)) (skipAttrsIn u) text p p′
   pub over : more ≡ false → (u : ℕ) → Gives (skipAttrsIn (suc u)) tt text p p′
+
+-- a small letter
+unfoldable pub isSmall : ℕ → Bool
+isSmall x = leb 97 x && leb x 122
+
+-- two of them stand there
+unfoldable pub letters : List ℕ → Bool
+letters [] = false
+letters (x ∷ []) = false
+letters (x ∷ y ∷ s) = isSmall x && isSmall y
+
+abbrev pub lettersP : List ℕ → Parsed → Bool
+lettersP text (Ok c) = letters (drop (c .at) text)
+lettersP text (Refused e q) = false

@@ -9,7 +9,7 @@ ghost use lib.ListN.{drop};
 ghost use Rattle.program.specs.Prog.{scanLen};
 ghost use Rattle.grammar.specs.Lexer.{skipAll, turns};
 ghost use Rattle.grammar.specs.Attributes.{parenAttrs, flagAttrs, linkages, callingConventions, convFlags, skipArithFlags, skipFastMathFlags, parseLinkage, skipCallCconv, groupStep, skipAttrs};
-ghost use Rattle.attributes.specs.Step.{groupDigits, AttrStep};
+ghost use Rattle.attributes.specs.Step.{groupDigits, AttrStep, letters, lettersP};
 ghost use Rattle.lexer.specs.Table.{Classes};
 ghost use Rattle.lexer.specs.Step.{rankP, rankedP};
 ghost use Rattle.lexer.specs.Reads.{Gives};
@@ -263,7 +263,47 @@ pub struct Passed {
     pub more: bool,
 }
 
-// One attribute, or none.
+// Do two small letters stand at `at`? Every attribute's word begins with two.
+fn letters_at(text: &[u8], at: usize) -> bool
+    ensures { λ r. ⌜ r ≡ letters (drop at (now (text .entry))) ⌝ }
+{
+    if text.len() <= at {
+        return false;
+    }
+    if text.len() - at <= 1 {
+        return false;
+    }
+    let x = text[at];
+    let y = text[at + 1];
+    if x < 97 {
+        return false;
+    }
+    if 122 < x {
+        return false;
+    }
+    if y < 97 {
+        return false;
+    }
+    if 122 < y {
+        return false;
+    }
+    true
+}
+
+// The same at the cursor.
+fn two_letters(text: &[u8], p: Parsed) -> bool
+    ensures { λ r. ⌜ r ≡ lettersP (now (text .entry)) p ⌝ }
+{
+    match p {
+        Parsed::Ok(c) => {
+            let at = c.at;
+            letters_at(text, at)
+        }
+        Parsed::Refused(e, q) => false,
+    }
+}
+
+// One attribute, or none. Where no two letters stand, and at `ptr`, none does, and no table is searched.
 fn attr_step(classes: &[u8; 256], text: &[u8], p: Parsed) -> Passed
     requires { ⌜ Classes (now classes) ⌝ }
     ensures { λ r. ⌜ AttrStep (now (text .entry)) p (r .p) (r .more) ⌝ }
@@ -277,6 +317,12 @@ fn attr_step(classes: &[u8; 256], text: &[u8], p: Parsed) -> Passed
     if lexer::looks(text, q, 34) {
         let q1 = lexer::refuse(q, 18);
         return Passed { p: q1, more: false };
+    }
+    if !two_letters(text, q) {
+        return Passed { p: q, more: false };
+    }
+    if lexer::word(classes, text, q, b"ptr") {
+        return Passed { p: q, more: false };
     }
     let k = paren_attr(classes, text, q);
     let q1 = k.p;

@@ -58,7 +58,7 @@ fn word_statement(classes: &[u8; 256], text: &[u8], words: &mut [u64], p: Parsed
             label,
         };
     }
-    let r = clauses::statement_opcode(classes, text, x.start, x.end);
+    let r = opcodes::statement_rank(classes, text, x.start, x.end);
     if r < 4 {
         let p2 = ranks::terminator(classes, text, words, p1, r);
         return Stated {

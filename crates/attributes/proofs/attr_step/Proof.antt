@@ -1,10 +1,15 @@
-use mathlib.Core.Path.{sym}
-use Rattle.program.specs.Prog.{_>>=_}
-use Rattle.grammar.specs.Attributes.{parenAttrs, flagAttrs, skipAttrsIn}
-use Rattle.lexer.proofs.Laws.{true-false, g-then, g-done, g-stay, g-byte-yes, g-byte-no, g-word-yes, g-word-no, g-fail}
-use Rattle.lexer.proofs.Ranks.{g-rank-yes, g-rank-no}
-use Rattle.attributes.specs.Step.{groupDigits}
+use Rattle.attributes.proofs.LetterLaws.{lettered, letters-rank, letters-word, known-rank, known-word, not-yes}
+use Rattle.attributes.specs.Step.{letters, isSmall}
+use Rattle.grammar.specs.Lexer.{rank, sameWord}
+use Rattle.program.specs.Bytes.{bytes}
+use mathlib.Core.Path.{refl}
 use Rattle.attributes.proofs.AttrLaws.{g-at-yes, g-at-no}
+use Rattle.attributes.specs.Step.{groupDigits}
+use Rattle.lexer.proofs.Ranks.{g-rank-yes, g-rank-no}
+use Rattle.lexer.proofs.Laws.{true-false, g-then, g-done, g-stay, g-byte-yes, g-byte-no, g-word-yes, g-word-no, g-fail}
+use Rattle.grammar.specs.Attributes.{parenAttrs, flagAttrs, skipAttrsIn}
+use Rattle.program.specs.Prog.{_>>=_}
+use mathlib.Core.Path.{sym}
 use borrow.Author.Needs.{needs}
 use Rattle.attributes.proofs.attr_step.Statement.{statement}
 use Rattle.attributes.proofs.attr_step.Tie as tie
@@ -13,6 +18,7 @@ use Rattle.attributes.proofs.attr_step.Lts as lts
 use Rattle.attributes.proofs.flag_attr.Reads as flag-attr-reads
 use Rattle.attributes.proofs.paren_attr.Reads as paren-attr-reads
 use Rattle.attributes.proofs.skip_group.Reads as skip-group-reads
+use Rattle.attributes.proofs.two_letters.Reads as two-letters-reads
 use Rattle.lexer.proofs.eat_ws.Reads as eat-ws-reads
 use Rattle.lexer.proofs.looks.Reads as looks-reads
 use Rattle.lexer.proofs.parse_int.Reads as parse-int-reads
@@ -21,91 +27,113 @@ use Rattle.lexer.proofs.refuse.Reads as refuse-reads
 use Rattle.lexer.proofs.skip_parens.Reads as skip-parens-reads
 use Rattle.lexer.proofs.word.Reads as word-reads
 
--- src/lib.rt:156:9
+-- src/lib.rt:311:9
 eat-ws-requires : tie.Need-eat-ws-requires
 eat-ws-requires c κs = search needs
 
--- src/lib.rt:157:8
+-- src/lib.rt:312:8
 looks-requires : tie.Need-looks-requires
 looks-requires c κs = search needs
 
--- src/lib.rt:158:13
+-- src/lib.rt:313:13
 pass-requires : tie.Need-pass-requires
 pass-requires c κs = search needs
 
--- src/lib.rt:159:13
+-- src/lib.rt:314:13
 skip-group-requires : tie.Need-skip-group-requires
 skip-group-requires c κs = search needs
 
--- src/lib.rt:160:9
+-- src/lib.rt:315:9
 returns : tie.Need-returns
 unfolding skipAttrsIn parenAttrs flagAttrs groupDigits _>>=_
 returns c = record { again = λ e u. g-then _ (c .before .before .before .before .eat-ws .ensures) (g-byte-yes _ _ (c .before .before .before .looks .ensures) (c .before .before .if1 .taken) (c .before .pass .ensures) (g-then {f = groupDigits} (λ _. skipAttrsIn u) (c .skip-group .ensures) g-stay)); over = λ e u. true-false (sym e) }
 
--- src/lib.rt:162:8
+-- src/lib.rt:317:8
 looks-requires-2 : tie.Need-looks-requires-2
 looks-requires-2 c κs = search needs
 
--- src/lib.rt:163:13
+-- src/lib.rt:318:13
 refuse-requires : tie.Need-refuse-requires
 refuse-requires c κs = search needs
 
--- src/lib.rt:164:9
+-- src/lib.rt:319:9
 returns-2 : tie.Need-returns-2
 unfolding skipAttrsIn parenAttrs flagAttrs groupDigits _>>=_
 returns-2 c = record { again = λ e u. true-false e; over = λ e u. g-then _ (c .before .before .before .before .before .eat-ws .ensures) (g-byte-no _ _ (c .before .before .before .before .looks .ensures) (c .before .before .before .if1 .left) (g-at-yes _ _ (c .before .before .looks2 .ensures) (c .before .if2 .taken) (g-fail _ (c .refuse .ensures)))) }
 
--- src/lib.rt:166:9
-paren-attr-requires : tie.Need-paren-attr-requires
-paren-attr-requires c κs = search needs
+-- src/lib.rt:321:9
+two-letters-requires : tie.Need-two-letters-requires
+two-letters-requires c κs = search needs
 
--- src/lib.rt:170:13
-skip-parens-requires : tie.Need-skip-parens-requires
-skip-parens-requires c κs = search needs
-
--- src/lib.rt:171:9
+-- src/lib.rt:322:9
 returns-3 : tie.Need-returns-3
-unfolding skipAttrsIn parenAttrs flagAttrs groupDigits _>>=_
-returns-3 c = record { again = λ e u. g-then _ (c .before .before .before .before .before .before .before .eat-ws .ensures) (g-byte-no _ _ (c .before .before .before .before .before .before .looks .ensures) (c .before .before .before .before .before .if1 .left) (g-at-no _ _ (c .before .before .before .before .looks2 .ensures) (c .before .before .before .if2 .left) (g-rank-yes _ _ _ (c .before .before .paren-attr .ensures) (c .before .if3 .taken) (g-then _ (c .skip-parens .ensures) g-stay)))); over = λ e u. true-false (sym e) }
+unfolding skipAttrsIn parenAttrs flagAttrs groupDigits _>>=_ letters lettered isSmall
+returns-3 c = record { again = λ e u. true-false e; over = λ e u. g-then _ (c .before .before .before .before .before .before .eat-ws .ensures) (g-byte-no _ _ (c .before .before .before .before .before .looks .ensures) (c .before .before .before .before .if1 .left) (g-at-no _ _ (c .before .before .before .looks2 .ensures) (c .before .before .if2 .left) (letters-rank parenAttrs _ refl (c .before .two-letters .ensures) (not-yes _ (c .if3 .taken)) (letters-word (bytes "align") _ refl (c .before .two-letters .ensures) (not-yes _ (c .if3 .taken)) (letters-rank flagAttrs _ refl (c .before .two-letters .ensures) (not-yes _ (c .if3 .taken)) g-done))))) }
 
--- src/lib.rt:173:39
+-- src/lib.rt:324:38
 slice-aggregate-word : tie.Need-slice-aggregate-word
 slice-aggregate-word c = search needs
 
--- src/lib.rt:173:8
+-- src/lib.rt:324:8
 word-requires : tie.Need-word-requires
 word-requires c κs = search needs
 
--- src/lib.rt:174:13
+-- src/lib.rt:325:9
+returns-4 : tie.Need-returns-4
+unfolding skipAttrsIn parenAttrs flagAttrs groupDigits _>>=_ rank sameWord
+returns-4 c = record { again = λ e u. true-false e; over = λ e u. g-then _ (c .before .before .before .before .before .before .before .before .before .eat-ws .ensures) (g-byte-no _ _ (c .before .before .before .before .before .before .before .before .looks .ensures) (c .before .before .before .before .before .before .before .if1 .left) (g-at-no _ _ (c .before .before .before .before .before .before .looks2 .ensures) (c .before .before .before .before .before .if2 .left) (known-rank (bytes "ptr") parenAttrs _ refl (c .before .word .ensures) (c .if4 .taken) (known-word (bytes "ptr") (bytes "align") _ refl (c .before .word .ensures) (c .if4 .taken) (known-rank (bytes "ptr") flagAttrs _ refl (c .before .word .ensures) (c .if4 .taken) g-done))))) }
+
+-- src/lib.rt:327:9
+paren-attr-requires : tie.Need-paren-attr-requires
+paren-attr-requires c κs = search needs
+
+-- src/lib.rt:331:13
+skip-parens-requires : tie.Need-skip-parens-requires
+skip-parens-requires c κs = search needs
+
+-- src/lib.rt:332:9
+returns-5 : tie.Need-returns-5
+unfolding skipAttrsIn parenAttrs flagAttrs groupDigits _>>=_
+returns-5 c = record { again = λ e u. g-then _ (c .before .before .before .before .before .before .before .before .before .before .before .before .eat-ws .ensures) (g-byte-no _ _ (c .before .before .before .before .before .before .before .before .before .before .before .looks .ensures) (c .before .before .before .before .before .before .before .before .before .before .if1 .left) (g-at-no _ _ (c .before .before .before .before .before .before .before .before .before .looks2 .ensures) (c .before .before .before .before .before .before .before .before .if2 .left) (g-rank-yes _ _ _ (c .before .before .paren-attr .ensures) (c .before .if5 .taken) (g-then _ (c .skip-parens .ensures) g-stay)))); over = λ e u. true-false (sym e) }
+
+-- src/lib.rt:334:39
+slice-aggregate-word-2 : tie.Need-slice-aggregate-word-2
+slice-aggregate-word-2 c = search needs
+
+-- src/lib.rt:334:8
+word-requires-2 : tie.Need-word-requires-2
+word-requires-2 c κs = search needs
+
+-- src/lib.rt:335:13
 pass-requires-2 : tie.Need-pass-requires-2
 pass-requires-2 c κs = search needs
 
--- src/lib.rt:175:13
+-- src/lib.rt:336:13
 eat-ws-requires-2 : tie.Need-eat-ws-requires-2
 eat-ws-requires-2 c κs = search needs
 
--- src/lib.rt:176:13
+-- src/lib.rt:337:13
 parse-int-requires : tie.Need-parse-int-requires
 parse-int-requires c κs = search needs
 
--- src/lib.rt:178:9
-returns-4 : tie.Need-returns-4
+-- src/lib.rt:339:9
+returns-6 : tie.Need-returns-6
 unfolding skipAttrsIn parenAttrs flagAttrs groupDigits _>>=_
-returns-4 c = record { again = λ e u. g-then _ (c .before .before .before .before .before .before .before .before .before .before .before .before .eat-ws .ensures) (g-byte-no _ _ (c .before .before .before .before .before .before .before .before .before .before .before .looks .ensures) (c .before .before .before .before .before .before .before .before .before .before .if1 .left) (g-at-no _ _ (c .before .before .before .before .before .before .before .before .before .looks2 .ensures) (c .before .before .before .before .before .before .before .before .if2 .left) (g-rank-no _ _ _ (c .before .before .before .before .before .before .before .paren-attr .ensures) (c .before .before .before .before .before .before .if3 .left) (g-word-yes _ _ (c .before .before .before .before .word .ensures) (c .before .before .before .if4 .taken) (c .before .before .pass2 .ensures) (g-then _ (c .before .eat-ws2 .ensures) (g-then _ (c .parse-int .ensures) g-stay)))))); over = λ e u. true-false (sym e) }
+returns-6 c = record { again = λ e u. g-then _ (c .before .before .before .before .before .before .before .before .before .before .before .before .before .before .before .before .before .eat-ws .ensures) (g-byte-no _ _ (c .before .before .before .before .before .before .before .before .before .before .before .before .before .before .before .before .looks .ensures) (c .before .before .before .before .before .before .before .before .before .before .before .before .before .before .before .if1 .left) (g-at-no _ _ (c .before .before .before .before .before .before .before .before .before .before .before .before .before .before .looks2 .ensures) (c .before .before .before .before .before .before .before .before .before .before .before .before .before .if2 .left) (g-rank-no _ _ _ (c .before .before .before .before .before .before .before .paren-attr .ensures) (c .before .before .before .before .before .before .if5 .left) (g-word-yes _ _ (c .before .before .before .before .word2 .ensures) (c .before .before .before .if6 .taken) (c .before .before .pass2 .ensures) (g-then _ (c .before .eat-ws2 .ensures) (g-then _ (c .parse-int .ensures) g-stay)))))); over = λ e u. true-false (sym e) }
 
--- src/lib.rt:180:9
+-- src/lib.rt:341:9
 flag-attr-requires : tie.Need-flag-attr-requires
 flag-attr-requires c κs = search needs
 
--- src/lib.rt:184:9
-returns-5 : tie.Need-returns-5
+-- src/lib.rt:345:9
+returns-7 : tie.Need-returns-7
 unfolding skipAttrsIn parenAttrs flagAttrs groupDigits _>>=_
-returns-5 c = record { again = λ e u. g-then _ (c .before .before .before .before .before .before .before .before .before .before .before .eat-ws .ensures) (g-byte-no _ _ (c .before .before .before .before .before .before .before .before .before .before .looks .ensures) (c .before .before .before .before .before .before .before .before .before .if1 .left) (g-at-no _ _ (c .before .before .before .before .before .before .before .before .looks2 .ensures) (c .before .before .before .before .before .before .before .if2 .left) (g-rank-no _ _ _ (c .before .before .before .before .before .before .paren-attr .ensures) (c .before .before .before .before .before .if3 .left) (g-word-no _ _ (c .before .before .before .word .ensures) (c .before .before .if4 .left) (g-rank-yes _ _ _ (c .before .flag-attr .ensures) (c .if5 .taken) g-stay))))); over = λ e u. true-false (sym e) }
+returns-7 c = record { again = λ e u. g-then _ (c .before .before .before .before .before .before .before .before .before .before .before .before .before .before .before .before .eat-ws .ensures) (g-byte-no _ _ (c .before .before .before .before .before .before .before .before .before .before .before .before .before .before .before .looks .ensures) (c .before .before .before .before .before .before .before .before .before .before .before .before .before .before .if1 .left) (g-at-no _ _ (c .before .before .before .before .before .before .before .before .before .before .before .before .before .looks2 .ensures) (c .before .before .before .before .before .before .before .before .before .before .before .before .if2 .left) (g-rank-no _ _ _ (c .before .before .before .before .before .before .paren-attr .ensures) (c .before .before .before .before .before .if5 .left) (g-word-no _ _ (c .before .before .before .word2 .ensures) (c .before .before .if6 .left) (g-rank-yes _ _ _ (c .before .flag-attr .ensures) (c .if7 .taken) g-stay))))); over = λ e u. true-false (sym e) }
 
--- src/lib.rt:152:1
-returns-6 : tie.Need-returns-6
+-- src/lib.rt:307:1
+returns-8 : tie.Need-returns-8
 unfolding skipAttrsIn parenAttrs flagAttrs groupDigits _>>=_
-returns-6 c = record { again = λ e u. true-false e; over = λ e u. g-then _ (c .before .before .before .before .before .before .before .before .before .before .before .eat-ws .ensures) (g-byte-no _ _ (c .before .before .before .before .before .before .before .before .before .before .looks .ensures) (c .before .before .before .before .before .before .before .before .before .if1 .left) (g-at-no _ _ (c .before .before .before .before .before .before .before .before .looks2 .ensures) (c .before .before .before .before .before .before .before .if2 .left) (g-rank-no _ _ _ (c .before .before .before .before .before .before .paren-attr .ensures) (c .before .before .before .before .before .if3 .left) (g-word-no _ _ (c .before .before .before .word .ensures) (c .before .before .if4 .left) (g-rank-no _ _ _ (c .before .flag-attr .ensures) (c .if5 .left) g-done))))) }
+returns-8 c = record { again = λ e u. true-false e; over = λ e u. g-then _ (c .before .before .before .before .before .before .before .before .before .before .before .before .before .before .before .before .eat-ws .ensures) (g-byte-no _ _ (c .before .before .before .before .before .before .before .before .before .before .before .before .before .before .before .looks .ensures) (c .before .before .before .before .before .before .before .before .before .before .before .before .before .before .if1 .left) (g-at-no _ _ (c .before .before .before .before .before .before .before .before .before .before .before .before .before .looks2 .ensures) (c .before .before .before .before .before .before .before .before .before .before .before .before .if2 .left) (g-rank-no _ _ _ (c .before .before .before .before .before .before .paren-attr .ensures) (c .before .before .before .before .before .if5 .left) (g-word-no _ _ (c .before .before .before .word2 .ensures) (c .before .before .if6 .left) (g-rank-no _ _ _ (c .before .flag-attr .ensures) (c .if7 .left) g-done))))) }
 
 pub attr-step-spec : {M : Type 1} → statement M
 attr-step-spec =
@@ -119,15 +147,20 @@ attr-step-spec =
     looks-requires-2
     refuse-requires
     returns-2
-    paren-attr-requires
-    skip-parens-requires
+    two-letters-requires
     returns-3
     slice-aggregate-word
     word-requires
+    returns-4
+    paren-attr-requires
+    skip-parens-requires
+    returns-5
+    slice-aggregate-word-2
+    word-requires-2
     pass-requires-2
     eat-ws-requires-2
     parse-int-requires
-    returns-4
+    returns-6
     flag-attr-requires
-    returns-5
-    returns-6)
+    returns-7
+    returns-8)

@@ -49,8 +49,8 @@ unfolding wordStatement
 returns-2 c = place-at _ _ (c .before .before .before .before .before .before .before .place .ensures) (λ l. word-then _ (c .before .before .before .before .before .before .read-word .ensures .gives) (sym (c .before .before .before .before .before .before .read-word .ensures .none) ∙ c .before .before .before .before .before .if1 .left) (statement-some _ _ (sym (c .before .before .before .before .before .before .read-word .ensures .none) ∙ c .before .before .before .before .before .if1 .left) (byte-yes _ _ (c .before .before .before .before .looks .ensures) (c .before .before .before .if2 .taken) (c .before .before .pass .ensures) (enrich (is-label _ _ _ _ _ (c .before .minus .ensures) (c .before .before .before .before .before .before .read-word .ensures .size) l (c .pack-word .ensures))))))
 
 -- src/lib.rt:74:9
-statement-opcode-requires : tie.Need-statement-opcode-requires
-statement-opcode-requires c κs = search needs
+statement-rank-requires : tie.Need-statement-rank-requires
+statement-rank-requires c κs = search needs
 
 -- src/lib.rt:76:13
 terminator-requires : tie.Need-terminator-requires
@@ -63,7 +63,7 @@ same-length c = search needs
 -- src/lib.rt:77:9
 returns-3 : tie.Need-returns-3
 unfolding wordStatement asTerminator
-returns-3 c = place-at _ _ (c .before .before .before .before .before .before .before .before .before .before .place .ensures) (λ l. word-then _ (c .before .before .before .before .before .before .before .before .before .read-word .ensures .gives) (sym (c .before .before .before .before .before .before .before .before .before .read-word .ensures .none) ∙ c .before .before .before .before .before .before .before .before .if1 .left) (statement-some _ _ (sym (c .before .before .before .before .before .before .before .before .before .read-word .ensures .none) ∙ c .before .before .before .before .before .before .before .before .if1 .left) (byte-no _ _ (c .before .before .before .before .before .before .before .looks .ensures) (c .before .before .before .before .before .before .if2 .left) (turn (statement-at _ _ (c .before .before .before .before .before .statement-opcode .ensures)) (turn (statement-end _ (c .before .before .before .before .if3 .taken)) (then-rich 3 _ {c = 0} (c .before .before .terminator .ensures) (λ ws. enrich (is-stated _ (a-terminator refl)))))))))
+returns-3 c = place-at _ _ (c .before .before .before .before .before .before .before .before .before .before .place .ensures) (λ l. word-then _ (c .before .before .before .before .before .before .before .before .before .read-word .ensures .gives) (sym (c .before .before .before .before .before .before .before .before .before .read-word .ensures .none) ∙ c .before .before .before .before .before .before .before .before .if1 .left) (statement-some _ _ (sym (c .before .before .before .before .before .before .before .before .before .read-word .ensures .none) ∙ c .before .before .before .before .before .before .before .before .if1 .left) (byte-no _ _ (c .before .before .before .before .before .before .before .looks .ensures) (c .before .before .before .before .before .before .if2 .left) (turn (statement-at _ _ (c .before .before .before .before .before .statement-rank .ensures)) (turn (statement-end _ (c .before .before .before .before .if3 .taken)) (then-rich 3 _ {c = 0} (c .before .before .terminator .ensures) (λ ws. enrich (is-stated _ (a-terminator refl)))))))))
 
 -- src/lib.rt:83:9
 plain-inst-requires : tie.Need-plain-inst-requires
@@ -76,7 +76,7 @@ same-length-2 c = search needs
 -- src/lib.rt:53:1
 returns-4 : tie.Need-returns-4
 unfolding wordStatement asInstruction
-returns-4 c = place-at _ _ (c .before .before .before .before .before .before .before .before .before .before .place .ensures) (λ l. word-then _ (c .before .before .before .before .before .before .before .before .before .read-word .ensures .gives) (sym (c .before .before .before .before .before .before .before .before .before .read-word .ensures .none) ∙ c .before .before .before .before .before .before .before .before .if1 .left) (statement-some _ _ (sym (c .before .before .before .before .before .before .before .before .before .read-word .ensures .none) ∙ c .before .before .before .before .before .before .before .before .if1 .left) (byte-no _ _ (c .before .before .before .before .before .before .before .looks .ensures) (c .before .before .before .before .before .before .if2 .left) (turn (statement-at _ _ (c .before .before .before .before .before .statement-opcode .ensures)) (turn (statement-plain _ (c .before .before .before .before .if3 .left)) (then-rich 3 _ {c = 0} (c .before .before .plain-inst .ensures) (λ ws. enrich (is-stated _ (an-instruction refl)))))))))
+returns-4 c = place-at _ _ (c .before .before .before .before .before .before .before .before .before .before .place .ensures) (λ l. word-then _ (c .before .before .before .before .before .before .before .before .before .read-word .ensures .gives) (sym (c .before .before .before .before .before .before .before .before .before .read-word .ensures .none) ∙ c .before .before .before .before .before .before .before .before .if1 .left) (statement-some _ _ (sym (c .before .before .before .before .before .before .before .before .before .read-word .ensures .none) ∙ c .before .before .before .before .before .before .before .before .if1 .left) (byte-no _ _ (c .before .before .before .before .before .before .before .looks .ensures) (c .before .before .before .before .before .before .if2 .left) (turn (statement-at _ _ (c .before .before .before .before .before .statement-rank .ensures)) (turn (statement-plain _ (c .before .before .before .before .if3 .left)) (then-rich 3 _ {c = 0} (c .before .before .plain-inst .ensures) (λ ws. enrich (is-stated _ (an-instruction refl)))))))))
 
 pub word-statement-spec : {M : Type 1} → statement M
 word-statement-spec =
@@ -91,7 +91,7 @@ word-statement-spec =
     minus-requires
     pack-word-requires
     returns-2
-    statement-opcode-requires
+    statement-rank-requires
     terminator-requires
     same-length
     returns-3
