@@ -1,15 +1,18 @@
-// `parse_call`: a function type in a call repeats the return type, which is read again where its words belong.
+// `parse_call`: a function type in a call repeats the return type, whose words are copied to where they belong too.
+use lexer::Cursor;
 use lexer::Parsed;
 use types::Listed;
+ghost use mathlib.Core.Path.{_≡_};
 ghost use mathlib.Core.List.{List, [], _∷_};
-ghost use Prim.Native.Nat.{ℕ, _+_, _≤_};
+ghost use Prim.Native.Nat.{ℕ, _+_, _≤_, _<_};
 ghost use lib.ListN.{length};
-ghost use Rattle.grammar.specs.Types.{TypeOut, listed, parseType};
+ghost use Rattle.program.specs.Prog.{ret};
+ghost use Rattle.grammar.specs.Types.{listed};
 ghost use Rattle.grammar.specs.Instructions.{parseArgList, callRest, parseCall, parseTailCall};
 ghost use Rattle.lexer.specs.Table.{Classes};
 ghost use Rattle.lexer.specs.Reads.{Leads, made, same};
 ghost use Rattle.instructions.specs.Rich.{richly};
-ghost use Rattle.orders.specs.Found.{Found, typeOf};
+ghost use Rattle.calls.specs.Copy.{copied, Held};
 ghost use Rattle.calls.specs.Func.{funcType};
 
 // The arguments, behind the `(` (`parse_arg_list`); n children stand before them, of which `odd` says whether they are odd in number.
@@ -123,15 +126,65 @@ fn call_rest(
     lexer::close(words, p0, p5, 44, d, l.n)
 }
 
-// The function type, behind the `(`: its return type stands at s.
+// The n words from `from` on stand from `to` on too, where that is not before them; as far as the array reaches.
+fn copy(words: &mut [u64], from: usize, to: usize, n: usize)
+    ensures { λ r. ⌜ (from ≤ to → now (words .exit) ≡ copied n from to (now (words .entry))) ⌝ }
+{
+    if to < from {
+        return;
+    }
+    let room = lexer::minus(words.len(), to);
+    let mut k: usize = 0;
+    while k < n {
+        if room <= k {
+            return;
+        }
+        let x = words[from + k];
+        words[to + k] = x;
+        k += 1;
+    }
+}
+
+// The sum, where it is below 2^32: no text has as many words.
+fn sum(w: usize, n: usize) -> usize
+    ensures { λ r. ⌜ (w + n < 4294967296 → r ≡ w + n) ⌝ }
+{
+    if w < 4294967296 {
+        if n < 4294967296 {
+            return w + n;
+        }
+    }
+    w
+}
+
+// The words between a and b stand once more behind p.
+fn again(words: &mut [u64], a: Parsed, b: Parsed, p: Parsed) -> Parsed
+    ensures { λ r. ⌜ ((text t : List ℕ) → Held t a b p (now (words .entry)) → Leads (ret t) (length t) [] (made same text p) text p p (now (words .entry)) r (now (words .exit))) ⌝ }
+{
+    match p {
+        Parsed::Ok(c) => match a {
+            Parsed::Ok(x) => match b {
+                Parsed::Ok(y) => {
+                    let n = lexer::minus(y.w, x.w);
+                    copy(words, x.w, c.w, n);
+                    let w = sum(c.w, n);
+                    Parsed::Ok(Cursor { at: c.at, w })
+                }
+                Parsed::Refused(e, q) => p,
+            },
+            Parsed::Refused(e, q) => p,
+        },
+        Parsed::Refused(e, q) => p,
+    }
+}
+
+// The function type, behind the `(`: the words since s are those of its return type.
 fn func_type(classes: &[u8; 256], text: &[u8], words: &mut [u64], p: Parsed, s: Parsed) -> Parsed
     requires { ⌜ Classes (now classes) ⌝ }
-    ensures { λ r. ⌜ ((a : TypeOut) → Found (parseType 64) (now (text .entry)) s p a → Leads (funcType (typeOf a)) (length (typeOf a) + 1) [] (richly (now (text .entry)) (made same (now (text .entry)) p)) (now (text .entry)) p p (now (words .entry)) r (now (words .exit))) ⌝ }
+    ensures { λ r. ⌜ ((t : List ℕ) → Held t s p p (now (words .entry)) → Leads (funcType t) (length t + 1) [] (made same (now (text .entry)) p) (now (text .entry)) p p (now (words .entry)) r (now (words .exit))) ⌝ }
 {
     let p1 = lexer::push(words, p, 0);
-    let z = instructions::resume(p1, s);
-    let z1 = types::parse_type(classes, text, words, z, 64);
-    let p2 = instructions::resume(z1, p1);
+    let p2 = again(words, s, p, p1);
     let l = types::parse_type_list(classes, text, words, p2, 63);
     let p3 = l.p;
     let n = types::one_more(l.n);

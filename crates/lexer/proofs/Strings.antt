@@ -12,10 +12,10 @@ use lib.Seq.{length-take-le, take-take}
 use lib.Dec.{ltb, leb, eqb}
 use borrow.Author.Tests.{le-leb, lt-leb, eq-eqb, ne-eqb}
 use Rattle.program.specs.Choice.{pick}
-use Rattle.program.specs.Class.{classOf, isName}
+use Rattle.program.specs.Class.{classOf, isSpace, isName}
 use Rattle.program.specs.Prog.{Prog, ret, fail, here, scan, Res, ok, no-at, run, _>>=_, byteAt, scanLen, scanLen-le}
 use Rattle.records.specs.Words.{pack}
-use Rattle.grammar.specs.Lexer.{refuse, isByte, byteIf, stateOf, nameStep, quoteStep, Word, plain, quoted, sizeOf, quoteEnd, readWord, nameOf, balanceStep, cstringStep, cstringEnd, cstringAt}
+use Rattle.grammar.specs.Lexer.{refuse, isByte, byteIf, stateOf, spaceStep, nameStep, quoteStep, Word, plain, quoted, sizeOf, quoteEnd, readWord, nameOf, balanceStep, cstringStep, cstringEnd, cstringAt}
 use Rattle.lexer.specs.Step.{bumped, refused}
 use Rattle.lexer.specs.Reads.{Aim, Finds, Gives, Inside, Gave, got}
 use Rattle.lexer.specs.Names.{part, isQuoted, inner, rawWord, hollow, WordIs, noWord, taken, StopAt}
@@ -25,6 +25,23 @@ use Rattle.lexer.specs.declared.Parsed.the-variants.{Ok, Refused}
 use Rattle.lexer.specs.declared.Stop.{Stop}
 use Rattle.lexer.proofs.Scan.{drop-next, scan-some, scan-stop, byte-inside, byte-in}
 use Rattle.lexer.proofs.Laws.{bump-in, byte-run, run-eat, scan-run, some-byte, given, gone, kept, g-done, true-false}
+
+-- no comment begins with white space
+spaceless : 18 ≡ classOf 59 → ⊥
+unfolding classOf
+spaceless e = absurd (omega arith)
+
+-- ---- white space: r is the class of the byte at i
+module _ (s : List ℕ) (i r : ℕ) (h : i < length s) (e : r ≡ classOf (getD s i 0)) where
+  pub space-more : r ≡ 18 → i + scanLen spaceStep 0 (drop i s) ≡ i + 1 + scanLen spaceStep 0 (drop (i + 1) s)
+  unfolding spaceStep isSpace
+  space-more k =
+      let n : (getD s i 0 ≡ 59 → ⊥) = λ x. spaceless (sym k ∙ (e ∙ ap classOf x)) in
+      scan-some spaceStep s i 0 0 h (rw (ne-eqb _ _ n, ← e, eq-eqb _ _ k))
+
+  pub space-stop : (r ≡ 18 → ⊥) → (getD s i 0 ≡ 59 → ⊥) → i + scanLen spaceStep 0 (drop i s) ≡ i
+  unfolding spaceStep isSpace
+  space-stop k n = scan-stop spaceStep s i 0 h (rw (ne-eqb _ _ n, ← e, ne-eqb _ _ k))
 
 -- ---- unquoted: r is the class of the byte at i
 module _ (s : List ℕ) (i r : ℕ) (h : i < length s) (e : r ≡ classOf (getD s i 0)) where

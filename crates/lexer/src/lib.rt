@@ -406,8 +406,8 @@ fn space_step(classes: &[u8; 256], q: u8, b: u8) -> u8
     2
 }
 
-// The place behind the white space and comments that stand at `at`.
-fn space_end(classes: &[u8; 256], text: &[u8], at: usize) -> usize
+// The place behind the comments and white space that stand at `at`.
+fn comment_end(classes: &[u8; 256], text: &[u8], at: usize) -> usize
     requires { ⌜ Classes (now classes) ⌝ }
     ensures { λ r. ⌜ r ≡ at + scanLen spaceStep 0 (drop at (now (text .entry))) ⌝ }
 {
@@ -419,6 +419,25 @@ fn space_end(classes: &[u8; 256], text: &[u8], at: usize) -> usize
             return i;
         }
         q = s - 1;
+        i += 1;
+    }
+    i
+}
+
+// The same. Nearly always it is white space alone, which needs no state.
+fn space_end(classes: &[u8; 256], text: &[u8], at: usize) -> usize
+    requires { ⌜ Classes (now classes) ⌝ }
+    ensures { λ r. ⌜ r ≡ at + scanLen spaceStep 0 (drop at (now (text .entry))) ⌝ }
+{
+    let mut i = at;
+    while i < text.len() {
+        let b = text[i];
+        if class(classes, b) != 18 {
+            if b == 59 {
+                return comment_end(classes, text, i);
+            }
+            return i;
+        }
         i += 1;
     }
     i
@@ -541,6 +560,16 @@ pub fn refuse_at(p: Parsed, e: u64, at: usize) -> Parsed
     match p {
         Parsed::Ok(c) => Parsed::Refused(e, at),
         Parsed::Refused(e2, q) => Parsed::Refused(e2, q),
+    }
+}
+
+// The same answer, made anew: a copy takes the unused bytes of its memory along, which costs more than the rest.
+pub fn anew(p: Parsed) -> Parsed
+    ensures { λ r. ⌜ r ≡ p ⌝ }
+{
+    match p {
+        Parsed::Ok(c) => Parsed::Ok(Cursor { at: c.at, w: c.w }),
+        Parsed::Refused(e, q) => Parsed::Refused(e, q),
     }
 }
 

@@ -3,24 +3,29 @@
 use mathlib.Core.Path.{_≡_, refl, sym, subst}
 use mathlib.Core.List.{List, [], _∷_}
 use mathlib.Core.Bool.{Bool, true, false}
-use Prim.Native.Nat.{ℕ}
+use Prim.Native.Nat.{ℕ, _<_}
 use native.Mathlib.Omega.{arith}
 use Rattle.program.specs.Class.{classOf, isDigit}
 use Rattle.program.specs.Prog.{Prog, ret}
 use Rattle.records.specs.Words.{node}
 use Rattle.grammar.specs.Lexer.{isByte}
-use Rattle.grammar.specs.Numbers.{parseNumeral}
+use Rattle.grammar.specs.Numbers.{halves, twos, parseNumeral}
 use Rattle.grammar.specs.Values.{floatNode, literalWords, numeral, numericOr}
 use Rattle.lexer.specs.Step.{looksP, passed}
 use Rattle.lexer.specs.Reads.{Leads, Reads, Goal, Gives, made, same}
+use Rattle.lexer.specs.declared.Cursor.{Cursor}
 use Rattle.lexer.specs.declared.Parsed.{Parsed}
+use Rattle.lexer.specs.declared.Parsed.the-variants.{Ok, Refused}
 use Rattle.lexer.proofs.Laws.{val-paid, call, byte-yes, byte-no, true-false}
 use Rattle.literals.specs.declared.literal.Literal.the-variants.{Int, Float, Refused as Question}
 use Rattle.literals.specs.declared.literal.Literal.{Literal}
+use Rattle.literals.proofs.Halves.{W}
 use Rattle.numerals.specs.Tests.{digitP}
+use Rattle.numerals.specs.Scans.{ShortAt}
 use Rattle.numerals.specs.Reads.{LitAt, writtenOf, Out}
 use Rattle.numerals.specs.Constants.{plusValue, minusValue, digitValue, NumericVal}
 use Rattle.numerals.specs.declared.Lit.{Lit}
+use Rattle.numerals.proofs.NumeralLaws.{literal-short}
 use Rattle.numerals.proofs.Passing.{passes-numeral}
 use Rattle.numerals.proofs.TestLaws.{digit-yes, digit-no, digit-first, byte-first}
 
@@ -40,6 +45,14 @@ module _ (neg : Bool) {text : List ℕ} {p : Parsed} {x : Lit} {w : List ℕ} (a
   pub node-out : (n : ℕ) → x .lit ≡ Question n → Reads (numeral neg) text p w (x .p) w
   unfolding numeral
   node-out n e = val-paid _ 1 (passes-numeral neg) (a .gives) (refused-is (a .out n e))
+
+-- digits that are a numeral by themselves
+pub node-short : (neg : Bool) {text : List ℕ} {i v : ℕ} (cur : Cursor) {w : List ℕ} {p′ : Parsed} {w′ : List ℕ} → ShortAt text (cur .at) i v → v < W → Leads (ret (node 18 0 0 (halves (twos neg v)))) 3 [] (made same text (Ok (record { at = i; w = cur .w }))) text (Ok (record { at = i; w = cur .w })) (Ok (record { at = i; w = cur .w })) w p′ w′ → Reads (numeral neg) text (Ok cur) w p′ w′
+unfolding numeral literalWords
+node-short neg cur a h n = val-paid _ 1 (passes-numeral neg) (literal-short neg cur a h) (call 3 (omega arith) n)
+
+pub node-kept : (neg : Bool) {text : List ℕ} (e q : ℕ) {w : List ℕ} → Reads (numeral neg) text (Refused e q) w (Refused e q) w
+node-kept neg e q = refused-is tt
 
 -- ---- the tests of a numeric constant, a digit first
 no-plus : isDigit 43 ≡ false

@@ -1,28 +1,37 @@
 -- A numeral part by part, and the literal that it is.
 -- Assumes nothing.
 use mathlib.Core.Path.{_≡_, refl, sym, ap, _∙_, subst}
-use mathlib.Core.List.{List, []}
+use mathlib.Core.List.{List, [], _∷_}
 use mathlib.Core.Bool.{Bool, true, false}
-use Prim.Native.Nat.{ℕ, _≤_}
+use Prim.Native.Nat.{ℕ, _+_, _-_, _*_, _/_, _%_, _<_, _≤_}
 use native.Mathlib.Omega.{arith}
-use lib.ListN.{length}
-use Rattle.program.specs.Prog.{Prog}
-use Rattle.grammar.specs.Numbers.{Numeral, readSign, readExponent, behindPoint, readNumeric, literalOf, parseNumeral, Literal as Written}
+use lib.Dec.{leb, lit<}
+use lib.ListN.{length, drop}
+use lib.Seq.{length-take-le}
+use Rattle.program.specs.Class.{classOf, isName}
+use Rattle.program.specs.Prog.{Prog, ret, scanLen, scanLen-le, byteAt}
+use Rattle.grammar.specs.Lexer.{isByte}
+use Rattle.grammar.specs.Numbers.{Numeral, digitStep, valueOf, halves, twos, largest, int, readSign, readExponent, behindPoint, readNumeric, isFloat, integerOf, literalOf, parseNumeral, Literal as Written}
+use Rattle.lexer.specs.Names.{taken}
 use Rattle.lexer.specs.Step.{looksP, passed, refused}
 use Rattle.lexer.specs.Reads.{Aim, Finds, Gives}
+use Rattle.lexer.specs.declared.Cursor.{Cursor}
 use Rattle.lexer.specs.declared.Parsed.{Parsed}
 use Rattle.lexer.specs.declared.Parsed.the-variants.{Ok, Refused}
-use Rattle.lexer.proofs.Laws.{g-then, g-done, g-byte-yes, g-byte-no, g-fail, true-false}
+use Rattle.lexer.proofs.Laws.{given as from-run, g-then, g-done, g-byte-yes, g-byte-no, g-fail, true-false}
 use Rattle.literals.specs.Folds.{folded, allDigits, begins}
 use Rattle.literals.specs.Literals.{given}
 use Rattle.literals.specs.Numerals.{started, wholePushed, pointPassed, partPushed, exponentPassed, powerPushed, exponentOf, partOf, foldOf, literalIn}
 use Rattle.literals.specs.declared.literal.Literal.the-variants.{Int, Float, Refused as Question}
 use Rattle.literals.specs.declared.literal.Literal.{Literal}
 use Rattle.literals.specs.declared.numeral.Fold.{Fold}
+use Rattle.literals.proofs.Halves.{W, small-in, halves-are, negated-low}
 use Rattle.literals.proofs.Numerals.{numeral-literal}
-use Rattle.numerals.specs.Scans.{DigitsAt}
+use Rattle.numerals.specs.Scans.{DigitsAt, ShortAt}
 use Rattle.numerals.specs.Reads.{PowerAt, TailAt, NumeralAt, LitAt, writtenOf, Out}
 use Rattle.numerals.specs.declared.Part.the-variants.{Whole, Behind, Power}
+use Rattle.numerals.proofs.ScanLaws.{digits-run}
+use Rattle.numerals.proofs.TestLaws.{name-other}
 
 -- ---- the exponent
 pub power-here : {s0 t s : Fold} {text : List ℕ} {p q p′ : Parsed} {d : Bool} → Gives readSign d text p q → t ≡ exponentPassed s0 d → DigitsAt Power t text q p′ s → PowerAt s0 text p p′ s
@@ -150,3 +159,57 @@ module _ (neg : Bool) {text : List ℕ} {p q : Parsed} {s : Fold} (a : NumeralAt
       never : (u : Parsed) → Out (refused n u)
       never (Ok c) = tt
       never (Refused m x) = tt
+
+-- ---- digits that are a numeral by themselves
+low : (v : ℕ) → 0 * W + v ≡ v
+low v = omega arith
+
+short-in : (neg : Bool) (v : ℕ) → v < W → leb v (largest neg) ≡ true
+short-in neg v h = subst (λ (u : ℕ). leb u (largest neg) ≡ true) (low v) (small-in neg 0 v (lit< tt) h)
+
+integer-short : (neg : Bool) (v : ℕ) (l : List ℕ) → 0 < length l → v ≡ valueOf 0 l → v < W → integerOf neg l ≡ ret (int (halves (twos neg v)))
+unfolding integerOf
+integer-short neg v [] n e h = absurd (omega arith)
+integer-short neg v (x ∷ l) n e h = rw (e, integerOf, short-in neg (valueOf 0 (x ∷ l)) (rw e at h))
+
+point-named : isName 46 ≡ true
+unfolding isName classOf
+point-named = refl
+
+e-named : isName 101 ≡ true
+unfolding isName classOf
+e-named = refl
+
+E-named : isName 69 ≡ true
+unfolding isName classOf
+E-named = refl
+
+module _ (neg : Bool) {text : List ℕ} {i v : ℕ} (cur : Cursor) (a : ShortAt text (cur .at) i v) where
+  some-taken : 0 < length (taken digitStep 0 (drop (cur .at) text))
+  some-taken = omega (arith, length-take-le (scanLen digitStep 0 (drop (cur .at) text)) (drop (cur .at) text) (scanLen-le digitStep 0 (drop (cur .at) text)), a .some, a .place)
+
+  no-byte : (b : ℕ) → isName b ≡ true → isByte b (byteAt (drop i text)) ≡ false
+  no-byte b n = name-other b _ n (a .ends)
+
+  pub literal-short : v < W → Gives (parseNumeral neg) (int (halves (twos neg v))) text (Ok cur) (Ok (record { at = i; w = cur .w }))
+  unfolding parseNumeral readNumeric behindPoint literalOf isFloat
+  literal-short h =
+      g-then (literalOf neg)
+      (g-then _ (from-run cur i (λ x. digits-run text (cur .at) i (a .place)))
+      (g-byte-no 46 _ refl (no-byte 46 point-named) (g-byte-no 101 _ refl (no-byte 101 e-named) (g-byte-no 69 _ refl (no-byte 69 E-named) g-done))))
+      (rw (integer-short neg v (taken digitStep 0 (drop (cur .at) text)) some-taken (a .value) h) g-done)
+
+-- its two words
+words-are : (n hi lo : ℕ) → lo < W → n ≡ hi * W + lo → halves n ≡ hi ∷ lo ∷ []
+words-are n hi lo h e = let k : (hi ≡ n / W) × (lo ≡ n % W) = halves-are n hi lo h e in rw (← k .0, ← k .1)
+
+pub halves-minus : (neg : Bool) (v : ℕ) → neg ≡ true → v < W → (v ≡ 0 → ⊥) → halves (twos neg v) ≡ 18446744073709551615 ∷ (18446744073709551615 - v + 1) ∷ []
+halves-minus neg v n h z = rw n (words-are (twos true v) 18446744073709551615 (18446744073709551615 - v + 1) (omega arith) (ap (twos true) (sym (low v)) ∙ negated-low 0 v (lit< tt) h z))
+
+pub halves-plus : (neg : Bool) (v : ℕ) → neg ≡ false → v < W → halves (twos neg v) ≡ 0 ∷ v ∷ []
+unfolding twos
+halves-plus neg v n h = rw n (words-are v 0 v h (sym (low v)))
+
+pub halves-zero : (neg : Bool) (v : ℕ) → neg ≡ true → v ≡ 0 → halves (twos neg v) ≡ 0 ∷ v ∷ []
+unfolding twos
+halves-zero neg v n z = rw (n, z)

@@ -4,16 +4,16 @@ use mathlib.Core.Path.{_≡_, refl, sym, ap, _∙_}
 use mathlib.Core.List.{List, [], _∷_}
 use mathlib.Core.Bool.{Bool, true, false}
 use mathlib.Core.Option.{Option, none, some}
-use Prim.Native.Nat.{ℕ, _+_, _≤_, _<_}
+use Prim.Native.Nat.{ℕ, _+_, _*_, _≤_, _<_}
 use native.Mathlib.Omega.{arith}
 use lib.Dec.{eqb}
 use lib.ListN.{length, getD, drop, drop-of-length-le, length-drop}
 use lib.Seq.{length-take-le}
-use borrow.Author.Tests.{eq-eqb, ne-eqb, lt-ltb, le-ltb}
+use borrow.Author.Tests.{eq-eqb, ne-eqb, lt-ltb, le-ltb, lt-leb}
 use Rattle.program.specs.Choice.{pick}
-use Rattle.program.specs.Class.{classOf, isDigit, isHex}
-use Rattle.program.specs.Prog.{ret, run, ok, scanLen, scanLen-le}
-use Rattle.grammar.specs.Numbers.{digitStep, hexStep, digits}
+use Rattle.program.specs.Class.{classOf, isDigit, isHex, isName}
+use Rattle.program.specs.Prog.{ret, run, ok, scanLen, scanLen-le, byteAt}
+use Rattle.grammar.specs.Numbers.{digitStep, valueOf, hexStep, digits}
 use Rattle.lexer.specs.Names.{taken}
 use Rattle.lexer.specs.declared.Cursor.{Cursor}
 use Rattle.lexer.specs.declared.Parsed.the-variants.{Ok, Refused}
@@ -24,7 +24,7 @@ use Rattle.literals.specs.Hex.{hexFolded, hexPushed}
 use Rattle.literals.specs.declared.hex.Hex.{Hex}
 use Rattle.literals.specs.declared.numeral.Fold.{Fold}
 use Rattle.literals.proofs.Scans.{digits-all, digits-begin}
-use Rattle.numerals.specs.Scans.{pushedIn, DigitsAt}
+use Rattle.numerals.specs.Scans.{pushedIn, DigitsAt, ShortAt}
 use Rattle.numerals.specs.declared.Part.{Part}
 
 -- what an automaton passes from `at` on ends at i, and g folds it from s0 to s
@@ -123,6 +123,49 @@ module _ (part : Part) {text : List ℕ} {at : ℕ} {s0 : Fold} {i q : ℕ} {s :
     unfolding folded
     digit-none k n = folding-stop digitStep (folded (pushedIn part)) text at s0 i q s a refl h (step-first q _ (other _ d e k) n)
 
+-- ---- digits alone, and their value: the scan goes on from i in some state, and its value from v
+pub record Summing (text : List ℕ) (at i v : ℕ) : Type 0 where
+  pub q : ℕ
+  pub going : Folding digitStep valueOf text at 0 i q v
+
+-- `_` is a byte of a name, and the text's end is none
+score-named : 18 ≤ classOf 95 → ⊥
+unfolding classOf
+score-named h = omega arith
+
+name-out : (text : List ℕ) (i : ℕ) → length text ≤ i → isName (byteAt (drop i text)) ≡ false
+unfolding isName byteAt classOf
+name-out text i h = rw (drop-of-length-le text h)
+
+name-none : (text : List ℕ) (i d : ℕ) → i < length text → d ≡ classOf (getD text i 0) → 18 ≤ d → isName (byteAt (drop i text)) ≡ false
+unfolding isName byteAt
+name-none text i d h e k = rw (drop-next text i h, ← e, lt-leb _ _ k)
+
+pub short-start : (text : List ℕ) (at : ℕ) → Summing text at at 0
+short-start text at = record { q = 0; going = folding-start digitStep valueOf text at 0 }
+
+module _ {text : List ℕ} {at i v : ℕ} (a : Summing text at i v) where
+  pub short-out : length text ≤ i → at < i → ShortAt text at i v
+  unfolding valueOf
+  short-out h k =
+      let f : FoldsTo digitStep valueOf text at 0 i v = folding-out digitStep valueOf text at 0 i (a .q) v (a .going) refl h in
+      record { some = k; place = f .place; value = f .state; ends = name-out text i h }
+
+  module _ {d : ℕ} (h : i < length text) (e : d ≡ classOf (getD text i 0)) where
+    pub short-more : {u : ℕ} → d ≤ 9 → u ≡ v * 10 + d → Summing text at (i + 1) u
+    unfolding valueOf
+    short-more {u} k n =
+        let z : isDigit (getD text i 0) ≡ true = digital _ d e (omega arith) in
+        let o : (getD text i 0 ≡ 95 → ⊥) = λ x. true-false (sym no-score ∙ (rw x at z)) in
+        record { q = 1; going = folding-more digitStep valueOf text at 0 i (a .q) v (a .going) 1 u (λ l. rw (ne-eqb _ _ o, ← e, ← n)) h (step-digit (a .q) _ z) }
+
+    pub short-stop : 18 ≤ d → at < i → ShortAt text at i v
+    unfolding valueOf
+    short-stop k m =
+        let o : (getD text i 0 ≡ 95 → ⊥) = λ x. score-named (rw (← x, ← e) k) in
+        let f : FoldsTo digitStep valueOf text at 0 i v = folding-stop digitStep valueOf text at 0 i (a .q) v (a .going) refl h (step-stop (a .q) _ (other _ d e (omega arith)) o) in
+        record { some = m; place = f .place; value = f .state; ends = name-none text i d h e k }
+
 -- ---- hex digits
 module _ {text : List ℕ} {at : ℕ} {s0 : Hex} {i : ℕ} {s : Hex} where
   pub hex-out : Folding hexStep hexFolded text at s0 i 0 s → length text ≤ i → FoldsTo hexStep hexFolded text at s0 i s
@@ -143,7 +186,7 @@ module _ {text : List ℕ} {at : ℕ} {s0 : Hex} {i : ℕ} {s : Hex} where
         folding-stop hexStep hexFolded text at s0 i 0 s a refl h (rw (← e, le-ltb _ _ l))
 
 -- ---- the digits at the cursor
-digits-run : (text : List ℕ) (at i : ℕ) → i ≡ at + scanLen digitStep 0 (drop at text) → run digits at (drop at text) ≡ ok (taken digitStep 0 (drop at text)) i
+pub digits-run : (text : List ℕ) (at i : ℕ) → i ≡ at + scanLen digitStep 0 (drop at text) → run digits at (drop at text) ≡ ok (taken digitStep 0 (drop at text)) i
 unfolding digits run
 digits-run text at i e = scan-run digitStep 0 ret text at ∙ ap (ok (taken digitStep 0 (drop at text))) (sym e)
 

@@ -8,7 +8,7 @@ use native.Mathlib.Omega.{arith}
 use lib.Dec.{ltb, eqb}
 use lib.ListN.{length, getD, drop, drop-of-length-le}
 use borrow.Author.Tests.{eq-eqb, ne-eqb, eqb-true}
-use Rattle.program.specs.Class.{classOf, isDigit, isWord}
+use Rattle.program.specs.Class.{classOf, isDigit, isWord, isName}
 use Rattle.program.specs.Prog.{Prog, Res, run, byteAt, leadWord}
 use Rattle.grammar.specs.Lexer.{isByte, byteIf, startsWith, eatN}
 use Rattle.grammar.specs.Values.{prefixIf, digitIf}
@@ -137,6 +137,10 @@ off false h = refl
 digit-other : (b : ℕ) → isDigit b ≡ false → (text : List ℕ) (p : Parsed) → digitP text p ≡ true → looksP text p b ≡ false
 digit-other b n text (Ok c) h = off _ (λ z. let o : isDigit b ≡ true = rw (is-byte b (byteAt (drop (c .at) text)) z) at h in true-false (sym n ∙ o))
 digit-other b n text (Refused e q) h = refl
+
+-- what is no byte of a name is none of these
+pub name-other : (b x : ℕ) → isName b ≡ true → isName x ≡ false → isByte b x ≡ false
+name-other b x n h = off _ (λ z. true-false (sym (rw (is-byte b x z) at h) ∙ n))
 
 byte-other : (a b : ℕ) → isByte b a ≡ false → (text : List ℕ) (p : Parsed) → looksP text p a ≡ true → looksP text p b ≡ false
 byte-other a b n text (Ok c) h = rw (is-byte a (byteAt (drop (c .at) text)) h) n

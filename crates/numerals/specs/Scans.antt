@@ -1,12 +1,14 @@
 -- Digits as they are scanned and folded.
 -- Assumes nothing.
 use mathlib.Core.Path.{_≡_}
-use mathlib.Core.Bool.{true}
+use mathlib.Core.Bool.{true, false}
 use mathlib.Core.List.{List}
-use Prim.Native.Nat.{ℕ, _≤_}
-use lib.ListN.{length}
-use Rattle.program.specs.Prog.{ret, scan}
-use Rattle.grammar.specs.Numbers.{digits, hexStep}
+use Prim.Native.Nat.{ℕ, _+_, _≤_, _<_}
+use lib.ListN.{length, drop}
+use Rattle.program.specs.Class.{isName}
+use Rattle.program.specs.Prog.{ret, scan, scanLen, byteAt}
+use Rattle.grammar.specs.Numbers.{digitStep, valueOf, digits, hexStep}
+use Rattle.lexer.specs.Names.{taken}
 use Rattle.lexer.specs.Reads.{Gives}
 use Rattle.lexer.specs.declared.Parsed.{Parsed}
 use Rattle.literals.specs.Folds.{folded, allDigits, begins}
@@ -31,6 +33,14 @@ pub record DigitsAt (part : Part) (s0 : Fold) (text : List ℕ) (p p′ : Parsed
   pub all : allDigits run ≡ true
   pub begun : begins run ≡ true
   pub few : length run ≤ length text
+
+-- The digits at a place, which are a numeral by themselves: they end at i, where no byte of a name stands (256, the text's end, is none), and
+-- their value is v.
+pub record ShortAt (text : List ℕ) (at i v : ℕ) : Type 0 where
+  pub some : at < i
+  pub place : i ≡ at + scanLen digitStep 0 (drop at text)
+  pub value : v ≡ valueOf 0 (taken digitStep 0 (drop at text))
+  pub ends : isName (byteAt (drop i text)) ≡ false
 
 -- The hex digits at p.
 pub record HexAt (text : List ℕ) (p p′ : Parsed) (h : Hex) : Type 0 where

@@ -47,6 +47,13 @@ pub struct Folded {
     pub s: Fold,
 }
 
+// Where a run of digits ends, its value, and whether it is a numeral by itself.
+pub struct Short {
+    pub at: usize,
+    pub v: u64,
+    pub is: bool,
+}
+
 // Where the reader is behind hex digits, and what they fold to.
 pub struct HexFolded {
     pub p: Parsed,

@@ -2,6 +2,8 @@
 use crate::reads::parse_f0x;
 use crate::reads::parse_hex_float;
 use crate::reads::parse_numeral;
+use crate::scans::short_digits;
+use lexer::Cursor;
 use lexer::Parsed;
 use lexer::close;
 use lexer::push;
@@ -11,6 +13,7 @@ ghost use Prim.Native.Nat.{ℕ};
 ghost use Rattle.program.specs.Prog.{ret};
 ghost use Rattle.records.specs.Words.{node};
 ghost use Rattle.grammar.specs.Kinds.{kIntConst};
+ghost use Rattle.grammar.specs.Numbers.{halves, twos};
 ghost use Rattle.grammar.specs.Values.{floatNode, numeral};
 ghost use Rattle.lexer.specs.Table.{Classes};
 ghost use Rattle.lexer.specs.Reads.{Leads, Reads, made, same};
@@ -35,8 +38,20 @@ pub fn int_node(words: &mut [u64], p: Parsed, hi: u64, lo: u64) -> Parsed
     close(words, p, p3, 18, 0, 0)
 }
 
-// A numeral behind its sign.
-pub fn numeral(classes: &[u8; 256], text: &[u8], words: &mut [u64], p: Parsed, neg: bool) -> Parsed
+// The node of an integer of 64 bits and a sign.
+fn short_node(words: &mut [u64], p: Parsed, v: u64, neg: bool) -> Parsed
+    ensures { λ r. ⌜ ((text : List ℕ) → Leads (ret (node kIntConst 0 0 (halves (twos neg v)))) 3 [] (made same text p) text p p (now (words .entry)) r (now (words .exit))) ⌝ }
+{
+    if neg {
+        if v != 0 {
+            return int_node(words, p, 18446744073709551615, 18446744073709551615 - v + 1);
+        }
+    }
+    int_node(words, p, 0, v)
+}
+
+// Any numeral behind its sign.
+fn long_numeral(classes: &[u8; 256], text: &[u8], words: &mut [u64], p: Parsed, neg: bool) -> Parsed
     requires { ⌜ Classes (now classes) ⌝ }
     ensures { λ r. ⌜ Reads (numeral neg) (now (text .entry)) p (now (words .entry)) r (now (words .exit)) ⌝ }
 {
@@ -47,6 +62,25 @@ pub fn numeral(classes: &[u8; 256], text: &[u8], words: &mut [u64], p: Parsed, n
         Literal::Int(h, l) => int_node(words, q, h, l),
         Literal::Float(b) => float_node(words, q, b),
         Literal::Refused(e) => q,
+    }
+}
+
+// A numeral behind its sign. Most are short.
+pub fn numeral(classes: &[u8; 256], text: &[u8], words: &mut [u64], p: Parsed, neg: bool) -> Parsed
+    requires { ⌜ Classes (now classes) ⌝ }
+    ensures { λ r. ⌜ Reads (numeral neg) (now (text .entry)) p (now (words .entry)) r (now (words .exit)) ⌝ }
+{
+    match p {
+        Parsed::Ok(c) => {
+            let at = c.at;
+            let s = short_digits(classes, text, at);
+            if s.is {
+                let q = Parsed::Ok(Cursor { at: s.at, w: c.w });
+                return short_node(words, q, s.v, neg);
+            }
+            long_numeral(classes, text, words, p, neg)
+        }
+        Parsed::Refused(e, q) => Parsed::Refused(e, q),
     }
 }
 

@@ -2,6 +2,7 @@
 use crate::Folded;
 use crate::HexFolded;
 use crate::Part;
+use crate::Short;
 use lexer::Cursor;
 use lexer::Parsed;
 use lexer::class;
@@ -12,8 +13,9 @@ use literals::numeral::part_digit;
 use literals::numeral::power_digit;
 use literals::numeral::whole_digit;
 ghost use mathlib.Core.Path.{_≡_};
+ghost use mathlib.Core.Bool.{true};
 ghost use Rattle.lexer.specs.Table.{Classes};
-ghost use Rattle.numerals.specs.Scans.{pushedIn, DigitsAt, HexAt};
+ghost use Rattle.numerals.specs.Scans.{pushedIn, DigitsAt, ShortAt, HexAt};
 
 // A digit more.
 fn push_digit(part: Part, s: Fold, d: u8) -> Fold
@@ -67,6 +69,47 @@ pub fn digits(classes: &[u8; 256], text: &[u8], p: Parsed, s0: Fold, part: Part)
             p: Parsed::Refused(e, q),
             s: s0,
         },
+    }
+}
+
+// The digits at a place, if they are a numeral by themselves, as most are: no byte of a name behind them, so no `_`, `.`, `e` or `E`, and a value
+// that 64 bits hold. So the loop has one word and no state, and stops where ten times the value may not fit.
+pub fn short_digits(classes: &[u8; 256], text: &[u8], at: usize) -> Short
+    requires { ⌜ Classes (now classes) ⌝ }
+    ensures { λ r. ⌜ (r .is ≡ true → ShortAt (now (text .entry)) at (r .at) (r .v)) ⌝ }
+{
+    let mut i = at;
+    let mut v: u64 = 0;
+    while i < text.len() {
+        let d = class(classes, text[i]);
+        if 9 < d {
+            if d < 18 {
+                return Short {
+                    at: i,
+                    v,
+                    is: false,
+                };
+            }
+            return Short {
+                at: i,
+                v,
+                is: at < i,
+            };
+        }
+        if 1152921504606846975 < v {
+            return Short {
+                at: i,
+                v,
+                is: false,
+            };
+        }
+        v = v * 10 + (d as u64);
+        i += 1;
+    }
+    Short {
+        at: i,
+        v,
+        is: at < i,
     }
 }
 

@@ -19,11 +19,11 @@ use Rattle.lexer.specs.Reads.{Budget, Stands, At, Ends, at, out, Leads, Goal, m
 use Rattle.lexer.specs.declared.Cursor.{Cursor}
 use Rattle.lexer.specs.declared.Parsed.{Parsed}
 use Rattle.lexer.specs.declared.Parsed.the-variants.{Ok, Refused}
-use Rattle.lexer.proofs.Laws.{after, bind-at, at-less, more, no-more, Passes, val, val-paid, token-yes, token-no, push-then, spare, fail-is, close-is}
+use Rattle.lexer.proofs.Laws.{no-ok, true-false, after, bind-at, at-less, more, no-more, Passes, val, val-paid, token-yes, token-no, push-then, spare, fail-is, close-is}
 use Rattle.lexer.proofs.Passed.{passes-then, passes-token, passes-keyword, passes-local}
 use Rattle.clauses.specs.Clause.{alignOf}
 use Rattle.orders.specs.Kept.{Keeps, keeps, keeps-not, kept, nothing}
-use Rattle.orders.specs.Parts.{counted, alignedP, aligns, takenP}
+use Rattle.orders.specs.Parts.{counted, alignedP, aligns, takenP, stoppedP}
 use Rattle.orders.proofs.Twice.{Written, Shows, kept-here, write-then}
 
 -- ---- alloca
@@ -156,6 +156,14 @@ label-long : (labels : List ℕ) (l : ℕ) → length (labels ++ labelNode l) �
 unfolding labelNode node
 label-long labels l = length-append labels (labelNode l)
 
+-- where the reader is refused, any program is
+stops-at : {A : Type 0} {f : Prog A} {E : Goal A} {c : ℕ} {mid text : List ℕ} {p0 : Parsed} {w : List ℕ} (p : Parsed) → stoppedP p ≡ true → Leads f c mid E text p0 p w p w
+stops-at (Ok x) e = true-false e
+stops-at (Refused n x) e = record { runs = λ o low k cur t a. no-ok cur n x (sym t); hands = λ m y t. t }
+
+stops : {A : Type 0} {f : Prog A} {E : Goal A} {c : ℕ} {mid text : List ℕ} {p0 p : Parsed} {w : List ℕ} {r : Bool} → r ≡ stoppedP p → r ≡ true → Leads f c mid E text p0 p w p w
+stops {A} {f} {E} {c} {mid} {text} {p0} {p} e t = stops-at p (sym e ∙ t)
+
 module _ (u n : ℕ) (ints labels : List ℕ) {text : List ℕ} {p0 q q1 : Parsed} {w : List ℕ} (gw : Gives eatWs tt text q q1) where
   pub ints-end : {z : Bool} {q2 : Parsed} → z ≡ looksP text q1 93 → z ≡ true → q2 ≡ passed text 1 q1 → Leads (switchCases u n ints labels) (length labels) ints (kept (λ labels ints. ret (cases n ints labels)) length text p0) text p0 q w q2 w
   unfolding switchCases
@@ -177,6 +185,10 @@ module _ (u n : ℕ) (ints labels : List ℕ) {text : List ℕ} {p0 q q1 : Parse
     pub cases-out : {E : Goal Cases} {c : ℕ} {mid : List ℕ} {q4 : Parsed} → u ≤ 0 → q4 ≡ refused 19 q3 → Leads (switchCases u n ints labels) c mid E text p0 q w q4 w
     unfolding switchCases
     cases-out h x = no-more (λ t. switchCases t n ints labels) u h (token-no _ _ gw l y (val _ gc (val _ gt (fail-is _ x))))
+
+    pub cases-stop : {E : Goal Cases} {c : ℕ} {mid : List ℕ} {r : Bool} → 0 < u → r ≡ stoppedP q3 → r ≡ true → Leads (switchCases u n ints labels) c mid E text p0 q w q3 w
+    unfolding switchCases
+    cases-stop h e t = more (λ t. switchCases t n ints labels) u h (token-no _ _ gw l y (val _ gc (val _ gt (stops e t))))
 
     pub ints-more : (m : ℕ) {q4 q5 : Parsed} {w1 w2 : List ℕ} → 0 < u → m ≡ n + 1 → (q4 ≡ pushed q3) × (w1 ≡ pushes hi q3 w) → (q5 ≡ pushed q4) × (w2 ≡ pushes lo q4 w1)
         → Leads (switchCases u n ints labels) (length labels) ints (kept (λ labels ints. switchCases (u - 1) m ints labels) length text p0) text p0 q w q5 w2

@@ -1,5 +1,6 @@
 -- What the code of these readers holds of their programs.
 -- Assumes nothing.
+use mathlib.Core.Bool.{Bool, true, false}
 use mathlib.Core.List.{List, [], _∷_}
 use mathlib.Core.Option.{Option, none, some}
 use Prim.Native.Nat.{ℕ, zero, suc}
@@ -29,3 +30,8 @@ aligns (suc n) v p words = pushes v p words
 abbrev pub takenP : ℕ → Parsed → List ℕ → ℕ
 takenP i (Ok c) words = pick (ltb i (c .w)) (getD words i 0) 0
 takenP i (Refused e q) words = 0
+
+-- was the reader refused?
+abbrev pub stoppedP : Parsed → Bool
+stoppedP (Ok c) = false
+stoppedP (Refused e q) = true

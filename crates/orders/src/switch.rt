@@ -12,7 +12,7 @@ ghost use Rattle.lexer.specs.Reads.{Leads, Gives, made, same};
 ghost use Rattle.instructions.specs.Rich.{richly};
 ghost use Rattle.orders.specs.Dry.{Dry};
 ghost use Rattle.orders.specs.Kept.{kept, nothing};
-ghost use Rattle.orders.specs.Parts.{takenP};
+ghost use Rattle.orders.specs.Parts.{takenP, stoppedP};
 
 // A typed value, not written.
 fn pass_typed_val(classes: &[u8; 256], text: &[u8], p: Parsed) -> Parsed
@@ -67,6 +67,16 @@ fn case_int(classes: &[u8; 256], text: &[u8], p: Parsed) -> Case
     Case { p: q2, lo, hi }
 }
 
+// Was the reader refused? No byte ends the list of cases then, so this does.
+fn stopped(p: Parsed) -> bool
+    ensures { λ r. ⌜ r ≡ stoppedP p ⌝ }
+{
+    match p {
+        Parsed::Ok(c) => false,
+        Parsed::Refused(e, q) => true,
+    }
+}
+
 // So many cases were read.
 struct Cases {
     p: Parsed,
@@ -92,6 +102,9 @@ fn switch_ints(classes: &[u8; 256], text: &[u8], words: &mut [u64], p: Parsed) -
         let q2 = c.p;
         let t = clauses::target(classes, text, q2);
         let q3 = t.p;
+        if stopped(q3) {
+            return Cases { p: q3, n: 0 };
+        }
         let q4 = lexer::push(words, q3, c.hi);
         q = lexer::push(words, q4, c.lo);
         left -= 1;
@@ -128,6 +141,9 @@ fn switch_labels(classes: &[u8; 256], text: &[u8], words: &mut [u64], p: Parsed)
         let q2 = c.p;
         let t = clauses::target(classes, text, q2);
         let q3 = t.p;
+        if stopped(q3) {
+            return Cases { p: q3, n: 0 };
+        }
         q = clauses::label_node(words, q3, t.v);
         left -= 1;
         n = types::one_more(n);

@@ -16,6 +16,26 @@ fn likely(classes: &[u8; 256], text: &[u8], from: usize, to: usize, kw: &[u8], k
     clauses::value_opcode(classes, text, from, to)
 }
 
+// The same, likely one of two.
+fn either(
+    classes: &[u8; 256],
+    text: &[u8],
+    from: usize,
+    to: usize,
+    kw: &[u8],
+    k: u8,
+    kw2: &[u8],
+    k2: u8,
+) -> u8
+    requires { ⌜ (k ≡ rank (now kw) valueOpcodes) × (k2 ≡ rank (now kw2) valueOpcodes) × Classes (now classes) ⌝ }
+    ensures { λ r. ⌜ r ≡ rank (spelled (rawWord (part (now (text .entry)) from to))) valueOpcodes ⌝ }
+{
+    if lexer::spells(classes, text, from, to, kw) {
+        return k;
+    }
+    likely(classes, text, from, to, kw2, k2)
+}
+
 // The opcode that stands from a place to another.
 pub fn value_rank(classes: &[u8; 256], text: &[u8], from: usize, to: usize) -> u8
     requires { ⌜ Classes (now classes) ⌝ }
@@ -31,6 +51,10 @@ pub fn value_rank(classes: &[u8; 256], text: &[u8], from: usize, to: usize) -> u
             112 => likely(classes, text, from, to, b"phi", 36),
             116 => likely(classes, text, from, to, b"tail", 43),
             122 => likely(classes, text, from, to, b"zext", 20),
+            97 => either(classes, text, from, to, b"add", 0, b"alloca", 37),
+            115 => either(classes, text, from, to, b"sext", 21, b"select", 33),
+            109 => likely(classes, text, from, to, b"mul", 2),
+            98 => likely(classes, text, from, to, b"bitcast", 24),
             _ => clauses::value_opcode(classes, text, from, to),
         };
     }

@@ -10,9 +10,10 @@ use native.Mathlib.Nat.{add-zero}
 use lib.ListN.{length, take, drop, set, length-append, length-drop}
 use lib.Dec.{ltb, leb, eqb}
 use borrow.Author.Tests.{ne-eqb, eq-eqb, lt-ltb, eqb-true}
+use Rattle.program.specs.Bytes.{bytes}
 use Rattle.program.specs.Class.{classOf, isSpace, isWord}
 use Rattle.program.specs.Prog.{Prog, ret, fail, look, eat, here, lead, scan, last, Res, ok, closed, no-at, run, _>>=_, byteAt, leadWord, scanLen, next, run-bind}
-use Rattle.grammar.specs.Lexer.{spaceStep, eatWs, refuse, place, isByte, byteIf, byteAtIf, eatN, wordIf, rankIf, rank, sameWord, expectToken, threeDots, dotsIf}
+use Rattle.grammar.specs.Lexer.{spaceStep, eatWs, refuse, place, isByte, byteIf, byteAtIf, eatN, wordIf, rankIf, rank, sameWord, expectToken, threeDots, dotsIf, skipParens}
 use Rattle.grammar.specs.Attributes.{parenAttrs, flagAttrs, skipAttrsIn, skipAttrs}
 use Rattle.grammar.specs.Types.{Listed, listed, countOf, wordsOf, TypeOut, plain, opened, wholeOf, whole, items, structFields, typeItems, parseTypeList, ptrWords, intType, nameNode, arrayType, structType, packedType, leafTypes, optAddrspace, parseBaseType, suffixes, typeWith, noType, parseType}
 use Rattle.lexer.specs.Step.{looksP, wordP, passed, refused, replaced, replaces, backTo}
@@ -21,8 +22,30 @@ use Rattle.lexer.specs.declared.Cursor.{Cursor}
 use Rattle.lexer.specs.declared.Parsed.{Parsed}
 use Rattle.lexer.specs.declared.Parsed.the-variants.{Ok, Refused}
 use Rattle.lexer.proofs.Words.{front}
-use Rattle.lexer.proofs.Laws.{true-false, word-no, after, bind-at, at-less, at-place, at-part, at-whole, run-eat, done, stay, then, val, byte-yes, byte-no, fail-is, replace-then, place-then, pass-in}
+use Rattle.lexer.proofs.Laws.{true-false, g-done, g-word-no, word-no, after, bind-at, at-less, at-place, at-part, at-whole, run-eat, done, stay, then, val, byte-yes, byte-no, fail-is, replace-then, place-then, pass-in}
 use Rattle.types.specs.Reading.{spaced, Listing, TypeEnds, read, back, none, typed, listOf, Types, wordTypes}
+
+-- ---- where no `a` stands, no `addrspace` does
+no-a : (s : List ℕ) → isByte 97 (byteAt s) ≡ false → sameWord (leadWord s) (bytes "addrspace") ≡ false
+unfolding isByte byteAt leadWord sameWord
+no-a [] e = refl
+no-a (x ∷ s) e = go (isWord x) refl
+  where
+    go : (b : Bool) → isWord x ≡ b → sameWord (leadWord (x ∷ s)) (bytes "addrspace") ≡ false
+    go true h = rw (leadWord, h, e)
+    go false h = rw (leadWord, h)
+
+not-word : (text : List ℕ) (p : Parsed) → looksP text p 97 ≡ false → wordP text p (bytes "addrspace") ≡ false
+not-word text (Ok c) e = no-a (drop (c .at) text) e
+not-word text (Refused n q) e = refl
+
+pub not-addrspace : {text : List ℕ} {p : Parsed} {r : Bool} → r ≡ looksP text p 97 → r ≡ false → Gives optAddrspace tt text p p
+unfolding optAddrspace
+not-addrspace {text} {p} e y = g-word-no (bytes "addrspace") skipParens refl (not-word text p (sym e ∙ y)) g-done
+
+-- the same answer, made anew
+pub anew-is : {A : Type 0} {f : Prog A} {a : A} {text : List ℕ} {p q r : Parsed} → r ≡ q → Gives f a text p q → Gives f a text p r
+anew-is {A} {f} {a} {text} {p} e h = subst (λ (z : Parsed). Gives f a text p z) (sym e) h
 
 -- ---- a type that must be whole, then the rest
 -- at a parenthesis what comes next refuses with q

@@ -45,13 +45,25 @@ pub fn name_node(classes: &[u8; 256], text: &[u8], words: &mut [u64], p: Parsed,
 }
 
 // `addrspace(..)`, where it stands.
-fn opt_addrspace(classes: &[u8; 256], text: &[u8], p: Parsed) -> Parsed
+fn addrspace(classes: &[u8; 256], text: &[u8], p: Parsed) -> Parsed
     requires { ⌜ Classes (now classes) ⌝ }
     ensures { λ r. ⌜ Gives optAddrspace tt (now (text .entry)) p r ⌝ }
 {
     if lexer::word(classes, text, p, b"addrspace") {
         let q = lexer::pass(text, p, 9);
         return lexer::skip_parens(classes, text, q);
+    }
+    p
+}
+
+// The same. Where no `a` stands nothing is called.
+fn opt_addrspace(classes: &[u8; 256], text: &[u8], p: Parsed) -> Parsed
+    requires { ⌜ Classes (now classes) ⌝ }
+    ensures { λ r. ⌜ Gives optAddrspace tt (now (text .entry)) p r ⌝ }
+{
+    if lexer::looks(text, p, 97) {
+        let q = addrspace(classes, text, p);
+        return lexer::anew(q);
     }
     p
 }
@@ -63,8 +75,11 @@ fn ptr_type(classes: &[u8; 256], text: &[u8], words: &mut [u64], p: Parsed) -> P
 {
     let p1 = lexer::push(words, p, 0);
     let p2 = lexer::eat_ws(classes, text, p1);
-    let p3 = opt_addrspace(classes, text, p2);
-    lexer::close(words, p, p3, 5, 0, 0)
+    if lexer::looks(text, p2, 97) {
+        let p3 = addrspace(classes, text, p2);
+        return lexer::close(words, p, p3, 5, 0, 0);
+    }
+    lexer::close(words, p, p2, 5, 0, 0)
 }
 
 // The types that are a word, or 5. No two words stand at one place, so they are tried by how often they come.

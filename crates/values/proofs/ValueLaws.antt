@@ -178,3 +178,7 @@ value-some {text} {p} {q} {r} {w} {w1} d n g k = let e : suc (d - 1) ≡ d = ome
 -- the place of the `<`, in the code
 pub packed-as : {i j : ℕ} (t : Prog TypeOut) (x : Prog (List ℕ)) {text : List ℕ} {p q : Parsed} {w w1 : List ℕ} → i ≡ j → Leads (packedConst i t x) 1 [] (made same text p) text p p w q w1 → Leads (packedConst j t x) 1 [] (made same text p) text p p w q w1
 packed-as t x {text} {p} {q} {w} {w1} e h = subst (λ (z : ℕ). Leads (packedConst z t x) 1 [] (made same text p) text p p w q w1) e h
+
+-- the same answer, made anew
+pub tried-anew : {F : Prog (List ℕ) → Prog (List ℕ)} {text : List ℕ} {p q r : Parsed} {words words′ : List ℕ} {hit : Bool} → r ≡ q → Tried F text p words q hit words′ → Tried F text p words r hit words′
+tried-anew {F} {text} {p} {q} {r} {words} {words′} {hit} e t = subst (λ (z : Parsed). Tried F text p words z hit words′) (sym e) t

@@ -242,7 +242,7 @@ fn cstring_value(classes: &[u8; 256], text: &[u8], words: &mut [u64], p: Parsed)
 }
 
 // The values that hold no other.
-fn leaf_value(classes: &[u8; 256], text: &[u8], words: &mut [u64], p: Parsed) -> Hit
+fn any_leaf(classes: &[u8; 256], text: &[u8], words: &mut [u64], p: Parsed) -> Hit
     requires { ⌜ Classes (now classes) ⌝ }
     ensures { λ r. ⌜ Tried leafValues (now (text .entry)) p (now (words .entry)) (r .p) (r .hit) (now (words .exit)) ⌝ }
 {
@@ -276,6 +276,17 @@ fn leaf_value(classes: &[u8; 256], text: &[u8], words: &mut [u64], p: Parsed) ->
         return Hit { p: r, hit: true };
     }
     Hit { p, hit: false }
+}
+
+// The same, its answer made anew.
+fn leaf_value(classes: &[u8; 256], text: &[u8], words: &mut [u64], p: Parsed) -> Hit
+    requires { ⌜ Classes (now classes) ⌝ }
+    ensures { λ r. ⌜ Tried leafValues (now (text .entry)) p (now (words .entry)) (r .p) (r .hit) (now (words .exit)) ⌝ }
+{
+    let h = any_leaf(classes, text, words, p);
+    let q = h.p;
+    let r = lexer::anew(q);
+    Hit { p: r, hit: h.hit }
 }
 
 // Typed values behind commas, through the closing byte, behind the opening one (`parse_array_const`, `parse_struct_const`).

@@ -12,35 +12,35 @@ use Rattle.lexer.proofs.expect_token.Reads as expect-token-reads
 use Rattle.lexer.proofs.close.Reads as close-reads
 use Rattle.values.proofs.parse_value.Reads as parse-value-reads
 
--- src/lib.rt:116:9
+-- src/lib.rt:119:9
 parse-value-requires : tie.Need-parse-value-requires
 parse-value-requires c κs = search needs
 
--- src/lib.rt:117:9
+-- src/lib.rt:120:9
 expect-token-requires : tie.Need-expect-token-requires
 expect-token-requires c κs = search needs
 
--- src/lib.rt:118:9
+-- src/lib.rt:121:9
 parse-arg-list-requires : tie.Need-parse-arg-list-requires
 parse-arg-list-requires c κs = search needs
 
--- src/lib.rt:120:9
+-- src/lib.rt:123:9
 skip-attrs-requires : tie.Need-skip-attrs-requires
 skip-attrs-requires c κs = search needs
 
--- src/lib.rt:121:9
+-- src/lib.rt:124:9
 parse-trailing-requires : tie.Need-parse-trailing-requires
 parse-trailing-requires c κs = search needs
 
--- src/lib.rt:123:5
+-- src/lib.rt:126:5
 close-requires : tie.Need-close-requires
 close-requires c κs = search needs
 
--- src/lib.rt:102:1
+-- src/lib.rt:105:1
 same-length : tie.Need-same-length
 same-length c = search needs
 
--- src/lib.rt:102:1
+-- src/lib.rt:105:1
 returns : tie.Need-returns
 unfolding callRest
 returns c = λ dest types. then _ (c .before .before .before .before .before .before .before .before .before .before .before .before .before .parse-value .ensures) (λ f. val _ (c .before .before .before .before .before .before .before .before .before .before .expect-token .ensures) (then _ (c .before .before .before .before .before .before .before .before .parse-arg-list .ensures) (λ ws. val _ (c .before .before .before .before .before .skip-attrs .ensures) (val _ (c .before .before .before .before .parse-trailing .ensures) (close-is _ _ _ _ (c .before .before .close .ensures))))))

@@ -1,4 +1,5 @@
 use Rattle.calls.proofs.CallLaws.{made-then, call-opened}
+use Rattle.calls.proofs.CopyLaws.{since, held}
 use Rattle.orders.proofs.Twice.{found-on, type-twice}
 use Rattle.calls.specs.Func.{funcType}
 use Rattle.instructions.proofs.RichLaws.{enrich, then-rich}
@@ -27,64 +28,64 @@ use Rattle.lexer.proofs.pass.Reads as pass-reads
 use Rattle.lexer.proofs.push.Reads as push-reads
 use Rattle.types.proofs.parse_type.Reads as parse-type-reads
 
--- src/lib.rt:158:9
+-- src/lib.rt:205:9
 push-requires : tie.Need-push-requires
 push-requires c κs = search needs
 
--- src/lib.rt:159:9
+-- src/lib.rt:206:9
 push-requires-2 : tie.Need-push-requires-2
 push-requires-2 c κs = search needs
 
--- src/lib.rt:160:9
+-- src/lib.rt:207:9
 skip-call-cconv-requires : tie.Need-skip-call-cconv-requires
 skip-call-cconv-requires c κs = search needs
 
--- src/lib.rt:161:9
+-- src/lib.rt:208:9
 skip-attrs-requires : tie.Need-skip-attrs-requires
 skip-attrs-requires c κs = search needs
 
--- src/lib.rt:162:9
+-- src/lib.rt:209:9
 parse-type-requires : tie.Need-parse-type-requires
 parse-type-requires c κs = search needs
 
--- src/lib.rt:163:9
+-- src/lib.rt:210:9
 eat-ws-requires : tie.Need-eat-ws-requires
 eat-ws-requires c κs = search needs
 
--- src/lib.rt:164:8
+-- src/lib.rt:211:8
 looks-requires : tie.Need-looks-requires
 looks-requires c κs = search needs
 
--- src/lib.rt:165:13
+-- src/lib.rt:212:13
 pass-requires : tie.Need-pass-requires
 pass-requires c κs = search needs
 
--- src/lib.rt:166:13
+-- src/lib.rt:213:13
 func-type-requires : tie.Need-func-type-requires
 func-type-requires c κs = search needs
 
--- src/lib.rt:167:9
+-- src/lib.rt:214:9
 call-rest-requires : tie.Need-call-rest-requires
 call-rest-requires c κs = (c .before .before .before .before .before .before .before .before .before .before .before .before .before .before .before .before .before .before .before .before .before .before .before .before .before .pre, omega arith)
 
--- src/lib.rt:167:9
+-- src/lib.rt:214:9
 same-length : tie.Need-same-length
 same-length c = c .before .before .call-rest .kept .1 .1 .0 ∙ c .before .before .before .before .before .before .func-type .kept .1 .1 .0 ∙ c .before .before .before .before .before .before .before .before .before .before .before .before .before .before .parse-type .kept .1 .1 .0 ∙ c .before .before .before .before .before .before .before .before .before .before .before .before .before .before .before .before .before .before .before .before .push2 .kept .0 ∙ c .before .before .before .before .before .before .before .before .before .before .before .before .before .before .before .before .before .before .before .before .before .before .before .before .push .kept .0
 
--- src/lib.rt:167:9
+-- src/lib.rt:214:9
 returns : tie.Need-returns
 unfolding parseCall callOf funcType
-returns c = push-then _ (c .before .before .before .before .before .before .before .before .before .before .before .before .before .before .before .before .before .before .before .before .before .before .before .before .push .ensures) (push-then _ (c .before .before .before .before .before .before .before .before .before .before .before .before .before .before .before .before .before .before .before .before .push2 .ensures) (val _ (c .before .before .before .before .before .before .before .before .before .before .before .before .before .before .before .before .before .skip-call-cconv .ensures) (val _ (c .before .before .before .before .before .before .before .before .before .before .before .before .before .before .before .before .skip-attrs .ensures) (type-twice _ (c .before .before .before .before .before .before .before .before .before .before .before .before .before .before .parse-type .ensures) (call-opened _ _) (λ a F. token-yes _ _ (c .before .before .before .before .before .before .before .before .before .before .before .eat-ws .ensures) (c .before .before .before .before .before .before .before .before .before .before .looks .ensures) (c .before .before .before .before .before .before .before .before .before .if1 .taken) (c .before .before .before .before .before .before .before .before .pass .ensures) (made-then _ (funcNode (typeOf a)) (λ x. callRest (c .before .before .before .before .before .before .before .before .before .before .before .before .before .before .before .before .before .before .before .before .before .before .before .before .before .before .before .before .args .dest) 1 true 3 (typeOf a ++ x)) (spare (length (typeOf a) + 1 + 0) (omega arith) (then-rich (length (typeOf a) + 1) _ (c .before .before .before .before .before .before .func-type .ensures a (found-on (found-on F (c .before .before .before .before .before .before .before .before .before .before .before .eat-ws .ensures .hands)) (λ e x i. c .before .before .before .before .before .before .before .before .pass .ensures ∙ ap (passed (c .before .before .before .before .before .before .before .before .before .before .before .before .before .before .before .before .before .before .before .before .before .before .before .before .before .before .before .before .args .text .now) 1) i))) (λ ws. enrich (c .before .before .call-rest .ensures _ _))))))))))
+returns c = push-then _ (c .before .before .before .before .before .before .before .before .before .before .before .before .before .before .before .before .before .before .before .before .before .before .before .before .push .ensures) (push-then _ (c .before .before .before .before .before .before .before .before .before .before .before .before .before .before .before .before .before .before .before .before .push2 .ensures) (val _ (c .before .before .before .before .before .before .before .before .before .before .before .before .before .before .before .before .before .skip-call-cconv .ensures) (val _ (c .before .before .before .before .before .before .before .before .before .before .before .before .before .before .before .before .skip-attrs .ensures) (since (λ S. type-twice _ (c .before .before .before .before .before .before .before .before .before .before .before .before .before .before .parse-type .ensures) (call-opened _ _) (λ a F. token-yes _ _ (c .before .before .before .before .before .before .before .before .before .before .before .eat-ws .ensures) (c .before .before .before .before .before .before .before .before .before .before .looks .ensures) (c .before .before .before .before .before .before .before .before .before .if1 .taken) (c .before .before .before .before .before .before .before .before .pass .ensures) (held (0 ∷ c .before .before .before .before .before .before .before .before .before .before .before .before .before .before .before .before .before .before .before .before .before .before .before .before .before .before .before .before .args .dest ∷ []) (typeOf a) S (found-on (found-on F (c .before .before .before .before .before .before .before .before .before .before .before .eat-ws .ensures .hands)) (λ e x i. c .before .before .before .before .before .before .before .before .pass .ensures ∙ ap (passed (c .before .before .before .before .before .before .before .before .before .before .before .before .before .before .before .before .before .before .before .before .before .before .before .before .before .before .before .before .args .text .now) 1) i)) (λ H. made-then _ (funcNode (typeOf a)) (λ x. callRest (c .before .before .before .before .before .before .before .before .before .before .before .before .before .before .before .before .before .before .before .before .before .before .before .before .before .before .before .before .args .dest) 1 true 3 (typeOf a ++ x)) (spare (length (typeOf a) + 1 + 0) (omega arith) (then-rich (length (typeOf a) + 1) _ (enrich (c .before .before .before .before .before .before .func-type .ensures (typeOf a) H)) (λ ws. enrich (c .before .before .call-rest .ensures _ _))))))))))))
 
--- src/lib.rt:169:5
+-- src/lib.rt:216:5
 call-rest-requires-2 : tie.Need-call-rest-requires-2
 call-rest-requires-2 c κs = search needs
 
--- src/lib.rt:148:1
+-- src/lib.rt:195:1
 same-length-2 : tie.Need-same-length-2
 same-length-2 c = search needs
 
--- src/lib.rt:148:1
+-- src/lib.rt:195:1
 returns-2 : tie.Need-returns-2
 unfolding parseCall callOf
 returns-2 c = push-then _ (c .before .before .before .before .before .before .before .before .before .before .before .before .before .before .before .before .before .before .before .push .ensures) (push-then _ (c .before .before .before .before .before .before .before .before .before .before .before .before .before .before .before .push2 .ensures) (val _ (c .before .before .before .before .before .before .before .before .before .before .before .before .skip-call-cconv .ensures) (val _ (c .before .before .before .before .before .before .before .before .before .before .before .skip-attrs .ensures) (type-twice _ (c .before .before .before .before .before .before .before .before .before .parse-type .ensures) (call-opened _ _) (λ a F. token-no _ _ (c .before .before .before .before .before .before .eat-ws .ensures) (c .before .before .before .before .before .looks .ensures) (c .before .before .before .before .if1 .left) (spare 0 (omega arith) (enrich (c .before .before .call-rest2 .ensures _ _))))))))

@@ -10,23 +10,23 @@ use Rattle.calls.proofs.parse_tail_call.Lts as lts
 use Rattle.calls.proofs.parse_call.Reads as parse-call-reads
 use Rattle.lexer.proofs.expect_keyword.Reads as expect-keyword-reads
 
--- src/lib.rt:183:54
+-- src/lib.rt:230:54
 slice-aggregate-expect-keyword : tie.Need-slice-aggregate-expect-keyword
 slice-aggregate-expect-keyword c = search needs
 
--- src/lib.rt:183:9
+-- src/lib.rt:230:9
 expect-keyword-requires : tie.Need-expect-keyword-requires
 expect-keyword-requires c κs = search needs
 
--- src/lib.rt:184:5
+-- src/lib.rt:231:5
 parse-call-requires : tie.Need-parse-call-requires
 parse-call-requires c κs = search needs
 
--- src/lib.rt:173:1
+-- src/lib.rt:220:1
 same-length : tie.Need-same-length
 same-length c = search needs
 
--- src/lib.rt:173:1
+-- src/lib.rt:220:1
 returns : tie.Need-returns
 unfolding parseTailCall
 returns c = val _ (c .before .before .before .before .expect-keyword .ensures) (call-rich 3 (omega arith) (c .before .before .parse-call .ensures))
