@@ -91,6 +91,11 @@ same-is (x ∷ w) (y ∷ k) e =
     let a : x ≡ y = eqb-true x y (and-left (eqb x y) (sameWord w k) e) in
     rw (a, same-is w k (and-right (eqb x y) (sameWord w k) e))
 
+in-run : {A : Type 0} (kw : List ℕ) (table : List (List ℕ)) (f : ℕ → Prog A) (g : Prog A) (i : ℕ) (s : List ℕ) → ltb (rank kw table) (length table) ≡ true → sameWord (leadWord s) kw ≡ true → run (rankIf table f g) i s ≡ run (wordIf kw (f (rank kw table)) g) i s
+unfolding run rankIf wordIf
+in-run kw table f g i s t e =
+    ap (λ (w : List ℕ). run (elim (ltb (rank w table) (length table)) [ true ↦ eatN (length w) (f (rank w table)) | false ↦ g ]) i s) (same-is (leadWord s) kw e) ∙ ap (λ (b : Bool). run (elim b [ true ↦ eatN (length kw) (f (rank kw table)) | false ↦ g ]) i s) t ∙ sym (ap (λ (b : Bool). run (elim b [ true ↦ eatN (length kw) (f (rank kw table)) | false ↦ g ]) i s) e)
+
 module _ {A : Type 0} {E : Aim A} {text : List ℕ} {p p′ : Parsed} where
   pub letters-rank : {g : Prog A} (table : List (List ℕ)) (f : ℕ → Prog A) {r : Bool} → lettered table ≡ true → r ≡ lettersP text p → r ≡ false → Finds g E text p p′ → Finds (rankIf table f g) E text p p′
   letters-rank {g} table f {r} t l y s = record {
@@ -114,6 +119,13 @@ module _ {A : Type 0} {E : Aim A} {text : List ℕ} {p p′ : Parsed} where
   pub known-word : {g : Prog A} (kw : List ℕ) (k : List ℕ) (f : Prog A) {r : Bool} → sameWord kw k ≡ false → r ≡ wordP text p kw → r ≡ true → Finds g E text p p′ → Finds (wordIf k f g) E text p p′
   known-word {g} kw k f {r} t l y s = record {
     runs = λ cur e i. subst (λ (z : Res A). E .ends (cur .at) (cur .w) z p′) (sym (word-run k f g (cur .at) (drop (cur .at) text) (ap (λ (w : List ℕ). sameWord w k) (same-is (leadWord (drop (cur .at) text)) kw (ap (λ (z : Parsed). wordP text z kw) (sym e) ∙ sym l ∙ y)) ∙ t))) (s .runs cur e i);
+    hands = s .hands;
+  }
+
+  -- a word that is in the table
+  pub known-in : (kw : List ℕ) (table : List (List ℕ)) (f : ℕ → Prog A) (g : Prog A) {r : Bool} → ltb (rank kw table) (length table) ≡ true → r ≡ wordP text p kw → r ≡ true → Finds (wordIf kw (f (rank kw table)) g) E text p p′ → Finds (rankIf table f g) E text p p′
+  known-in kw table f g {r} t l y s = record {
+    runs = λ cur e i. subst (λ (z : Res A). E .ends (cur .at) (cur .w) z p′) (sym (in-run kw table f g (cur .at) (drop (cur .at) text) t (ap (λ (z : Parsed). wordP text z kw) (sym e) ∙ sym l ∙ y))) (s .runs cur e i);
     hands = s .hands;
   }
 

@@ -303,7 +303,7 @@ fn two_letters(text: &[u8], p: Parsed) -> bool
     }
 }
 
-// One attribute, or none. Where no two letters stand, and at `ptr`, none does, and no table is searched.
+// One attribute, or none. Where no two letters stand, and at `ptr`, none does, and no table is searched; nor is one for `noundef`, the most frequent.
 fn attr_step(classes: &[u8; 256], text: &[u8], p: Parsed) -> Passed
     requires { ⌜ Classes (now classes) ⌝ }
     ensures { λ r. ⌜ AttrStep (now (text .entry)) p (r .p) (r .more) ⌝ }
@@ -323,6 +323,10 @@ fn attr_step(classes: &[u8; 256], text: &[u8], p: Parsed) -> Passed
     }
     if lexer::word(classes, text, q, b"ptr") {
         return Passed { p: q, more: false };
+    }
+    if lexer::word(classes, text, q, b"noundef") {
+        let q1 = lexer::pass(text, q, 7);
+        return Passed { p: q1, more: true };
     }
     let k = paren_attr(classes, text, q);
     let q1 = k.p;

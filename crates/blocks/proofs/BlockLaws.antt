@@ -137,6 +137,10 @@ module _ {f : Prog (List ℕ)} {text w0 w : List ℕ} {p0 q q1 : Parsed} (left l
     unfolding parseBody
     body-terminator t i = go-on-rich inv (λ ws. more (λ u. parseBody u l n over ws) left some (val _ space (brace-no [] e y (then-terminator _ s t i (λ x. place-then _ (λ j. enrich (is-through l n over ws x)))))))
 
+-- the same answer, made anew
+pub lead-anew : {A : Type 0} {f : Prog A} {c : ℕ} {mid : List ℕ} {E : Goal A} {text : List ℕ} {p0 p q r : Parsed} {w w′ : List ℕ} → r ≡ q → Leads f c mid E text p0 p w q w′ → Leads f c mid E text p0 p w r w′
+lead-anew {A} {f} {c} {mid} {E} {text} {p0} {p} {q} {r} {w} {w′} e h = subst (λ (z : Parsed). Leads f c mid E text p0 p w z w′) (sym e) h
+
 pub body-out : {f : Prog (List ℕ)} {text w0 w : List ℕ} {p0 q q2 : Parsed} {E : Goal (List ℕ)} (left l n over : ℕ) → Leads f 0 [] (richly text (reach (parseBody left l n over) text p0)) text p0 p0 w0 q w → left ≤ 0 → q2 ≡ refused 8 q → Leads f 0 [] (richly text E) text p0 p0 w0 q2 w
 unfolding parseBody
 body-out left l n over inv h e = go-on-rich inv (λ ws. no-more (λ u. parseBody u l n over ws) left h (fail-is 8 e))

@@ -54,7 +54,8 @@ fn parse_body(classes: &[u8; 256], text: &[u8], words: &mut [u64], p: Parsed) ->
             };
         }
         let s = statements::parse_statement(classes, text, words, q1);
-        let q2 = s.p;
+        let q0 = s.p;
+        let q2 = lexer::anew(q0);
         let kind = s.kind;
         if kind == 0 {
             q = q2;

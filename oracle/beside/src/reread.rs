@@ -1,10 +1,10 @@
 //! Re-reading beside the model: edits of accepted texts, in rooms from exact to ample, and altered
 //! or hostile words, directories, counts and texts.
 
-use crate::check::same_array;
+use crate::check::{parse, same_array};
 use crate::lent::Lent;
 use crate::port::{Model, Port};
-use model::full::records;
+use model::full::{records, Records};
 use texts::mutate;
 use texts::rng::Rng;
 
@@ -22,12 +22,20 @@ pub struct Call {
 pub fn edit(rng: &mut Rng, older: &[u8]) -> Option<Call> {
     let r = records(older).ok()?;
     let newer = mutate::edit(rng, older);
+    Some(holding(r, older, newer, mutate::spare(rng)))
+}
+
+/// The same with a given newer text and room beyond the exact fit.
+pub fn call(older: &[u8], newer: Vec<u8>, spare: (usize, usize)) -> Option<Call> {
+    Some(holding(records(older).ok()?, older, newer, spare))
+}
+
+fn holding(r: Records, older: &[u8], newer: Vec<u8>, spare: (usize, usize)) -> Call {
     let entries = r.entries() as u64;
     let (mut words, mut directory) = (r.words, r.directory);
-    let spare = mutate::spare(rng);
     words.resize(words.len() + spare.0, 0);
     directory.resize(directory.len() + spare.1, 0);
-    Some(Call { older: older.to_vec(), newer, words, directory, entries })
+    Call { older: older.to_vec(), newer, words, directory, entries }
 }
 
 /// Something in a call altered: the rule asks less of the older records than a reading gives.
@@ -92,6 +100,29 @@ fn empty_piece(rng: &mut Rng, call: &mut Call) {
     let empty = [call.directory[2 * i] >> 32 << 32, call.directory[2 * i + 1] >> 32 << 32];
     call.directory.splice(2 * i..2 * i, empty);
     call.entries = call.entries.wrapping_add(1);
+}
+
+/// Every edit of one byte: deleted, each other byte in its place, each byte before it, each behind the text.
+pub fn one_byte_edits(older: &[u8]) -> impl Iterator<Item = Vec<u8>> + '_ {
+    let put = |at: usize, end: usize, new: Vec<u8>| [&older[..at], &new, &older[end..]].concat();
+    let deleted = (0..older.len()).map(move |i| put(i, i + 1, vec![]));
+    let replaced = (0..older.len()).flat_map(move |i| (0..=255).map(move |b| put(i, i + 1, vec![b])));
+    let inserted = (0..=older.len()).flat_map(move |i| (0..=255).map(move |b| put(i, i, vec![b])));
+    deleted.chain(replaced).chain(inserted)
+}
+
+/// On records as a full reading left them: a re-reading leaves what the reader's own full reading of the newer text leaves.
+pub fn as_full(port: &dyn Port, call: &Call) -> Result<(), String> {
+    let (mut words, mut directory) = (Lent::holding(&call.words), Lent::holding(&call.directory));
+    let again =
+        port.reparse_define(&call.older, &call.newer, words.words_mut(), directory.words_mut(), call.entries);
+    let full = parse(port, &call.newer, call.words.len(), call.directory.len());
+    let expected = full.answer;
+    if (again.number, again.place, again.entries) != (expected.number, expected.place, expected.entries) {
+        return Err(format!("re-reading answered {again:?}, the full reading {expected:?}"));
+    }
+    same_array("word", words.words(), full.words.words())?;
+    same_array("directory word", directory.words(), full.directory.words())
 }
 
 /// One call beside the model: answer, reports and every word. Gives the number.

@@ -65,21 +65,36 @@ fn flags() {
     assert_eq!(table("Attributes", "fastMathFlags"), quoted(between(&text, "const FLAGS", "];")));
     assert_eq!(table("Attributes", "arithFlags"), matched("skip_arith_flags", "fn skip_fast_math_flags"));
     assert_eq!(table("Attributes", "convFlags"), matched("parse_conv", "let from_ty"));
-    assert_eq!(table("Instructions", "orderings"), quoted(between(between(&text, "fn skip_atomic_ordering(", "Ok(())\n    }"), "for kw in [", "]")));
+    assert_eq!(
+        table("Instructions", "orderings"),
+        quoted(between(between(&text, "fn skip_atomic_ordering(", "Ok(())\n    }"), "for kw in [", "]"))
+    );
 }
 
 #[test]
 fn predicates() {
     let text = parser();
-    assert_eq!(table("Instructions", "icmpPreds"), quoted(between(between(&text, "fn parse_icmp_pred(", "for (kw"), "let preds", "];")));
-    assert_eq!(table("Instructions", "fcmpPreds"), quoted(between(between(&text, "fn parse_fcmp_pred(", "for (kw"), "let preds", "];")));
+    assert_eq!(
+        table("Instructions", "icmpPreds"),
+        quoted(between(between(&text, "fn parse_icmp_pred(", "for (kw"), "let preds", "];"))
+    );
+    assert_eq!(
+        table("Instructions", "fcmpPreds"),
+        quoted(between(between(&text, "fn parse_fcmp_pred(", "for (kw"), "let preds", "];"))
+    );
 }
 
 #[test]
 fn operators() {
     let text = parser();
-    assert_eq!(table("Values", "convOps"), quoted(between(between(&text, "fn match_conv_op(", "for (kw"), "const OPS", "];")));
-    assert_eq!(table("Values", "binOps"), quoted(between(between(&text, "fn match_bin_op(", "for (kw"), "const OPS", "];")));
+    assert_eq!(
+        table("Values", "convOps"),
+        quoted(between(between(&text, "fn match_conv_op(", "for (kw"), "const OPS", "];"))
+    );
+    assert_eq!(
+        table("Values", "binOps"),
+        quoted(between(between(&text, "fn match_bin_op(", "for (kw"), "const OPS", "];"))
+    );
     assert_eq!(table("Values", "binOps"), arms("parse_bin"));
     assert_eq!(table("Instructions", "fbinOps"), arms("parse_fbin"));
     assert_eq!(table("Instructions", "instConvOps"), arms("parse_conv"));

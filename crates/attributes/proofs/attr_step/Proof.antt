@@ -1,4 +1,4 @@
-use Rattle.attributes.proofs.LetterLaws.{lettered, letters-rank, letters-word, known-rank, known-word, not-yes}
+use Rattle.attributes.proofs.LetterLaws.{lettered, letters-rank, letters-word, known-rank, known-word, known-in, not-yes}
 use Rattle.attributes.specs.Step.{letters, isSmall}
 use Rattle.grammar.specs.Lexer.{rank, sameWord}
 use Rattle.program.specs.Bytes.{bytes}
@@ -83,57 +83,74 @@ returns-4 : tie.Need-returns-4
 unfolding skipAttrsIn parenAttrs flagAttrs groupDigits _>>=_ rank sameWord
 returns-4 c = record { again = λ e u. true-false e; over = λ e u. g-then _ (c .before .before .before .before .before .before .before .before .before .eat-ws .ensures) (g-byte-no _ _ (c .before .before .before .before .before .before .before .before .looks .ensures) (c .before .before .before .before .before .before .before .if1 .left) (g-at-no _ _ (c .before .before .before .before .before .before .looks2 .ensures) (c .before .before .before .before .before .if2 .left) (known-rank (bytes "ptr") parenAttrs _ refl (c .before .word .ensures) (c .if4 .taken) (known-word (bytes "ptr") (bytes "align") _ refl (c .before .word .ensures) (c .if4 .taken) (known-rank (bytes "ptr") flagAttrs _ refl (c .before .word .ensures) (c .if4 .taken) g-done))))) }
 
--- src/lib.rt:327:9
-paren-attr-requires : tie.Need-paren-attr-requires
-paren-attr-requires c κs = search needs
-
--- src/lib.rt:331:13
-skip-parens-requires : tie.Need-skip-parens-requires
-skip-parens-requires c κs = search needs
-
--- src/lib.rt:332:9
-returns-5 : tie.Need-returns-5
-unfolding skipAttrsIn parenAttrs flagAttrs groupDigits _>>=_
-returns-5 c = record { again = λ e u. g-then _ (c .before .before .before .before .before .before .before .before .before .before .before .before .eat-ws .ensures) (g-byte-no _ _ (c .before .before .before .before .before .before .before .before .before .before .before .looks .ensures) (c .before .before .before .before .before .before .before .before .before .before .if1 .left) (g-at-no _ _ (c .before .before .before .before .before .before .before .before .before .looks2 .ensures) (c .before .before .before .before .before .before .before .before .if2 .left) (g-rank-yes _ _ _ (c .before .before .paren-attr .ensures) (c .before .if5 .taken) (g-then _ (c .skip-parens .ensures) g-stay)))); over = λ e u. true-false (sym e) }
-
--- src/lib.rt:334:39
+-- src/lib.rt:327:38
 slice-aggregate-word-2 : tie.Need-slice-aggregate-word-2
 slice-aggregate-word-2 c = search needs
 
--- src/lib.rt:334:8
+-- src/lib.rt:327:8
 word-requires-2 : tie.Need-word-requires-2
 word-requires-2 c κs = search needs
 
--- src/lib.rt:335:13
+-- src/lib.rt:328:13
 pass-requires-2 : tie.Need-pass-requires-2
 pass-requires-2 c κs = search needs
 
--- src/lib.rt:336:13
+-- src/lib.rt:329:9
+returns-5 : tie.Need-returns-5
+unfolding skipAttrsIn parenAttrs flagAttrs groupDigits _>>=_ rank sameWord
+returns-5 c = record { again = λ e u. g-then _ (c .before .before .before .before .before .before .before .before .before .before .before .before .before .eat-ws .ensures) (g-byte-no _ _ (c .before .before .before .before .before .before .before .before .before .before .before .before .looks .ensures) (c .before .before .before .before .before .before .before .before .before .before .before .if1 .left) (g-at-no _ _ (c .before .before .before .before .before .before .before .before .before .before .looks2 .ensures) (c .before .before .before .before .before .before .before .before .before .if2 .left) (known-rank (bytes "noundef") parenAttrs _ refl (c .before .before .word2 .ensures) (c .before .if5 .taken) (known-word (bytes "noundef") (bytes "align") _ refl (c .before .before .word2 .ensures) (c .before .if5 .taken) (known-in (bytes "noundef") flagAttrs _ _ refl (c .before .before .word2 .ensures) (c .before .if5 .taken) (g-word-yes _ _ (c .before .before .word2 .ensures) (c .before .if5 .taken) (c .pass2 .ensures) g-stay)))))); over = λ e u. true-false (sym e) }
+
+-- src/lib.rt:331:9
+paren-attr-requires : tie.Need-paren-attr-requires
+paren-attr-requires c κs = search needs
+
+-- src/lib.rt:335:13
+skip-parens-requires : tie.Need-skip-parens-requires
+skip-parens-requires c κs = search needs
+
+-- src/lib.rt:336:9
+returns-6 : tie.Need-returns-6
+unfolding skipAttrsIn parenAttrs flagAttrs groupDigits _>>=_
+returns-6 c = record { again = λ e u. g-then _ (c .before .before .before .before .before .before .before .before .before .before .before .before .before .before .before .eat-ws .ensures) (g-byte-no _ _ (c .before .before .before .before .before .before .before .before .before .before .before .before .before .before .looks .ensures) (c .before .before .before .before .before .before .before .before .before .before .before .before .before .if1 .left) (g-at-no _ _ (c .before .before .before .before .before .before .before .before .before .before .before .before .looks2 .ensures) (c .before .before .before .before .before .before .before .before .before .before .before .if2 .left) (g-rank-yes _ _ _ (c .before .before .paren-attr .ensures) (c .before .if6 .taken) (g-then _ (c .skip-parens .ensures) g-stay)))); over = λ e u. true-false (sym e) }
+
+-- src/lib.rt:338:39
+slice-aggregate-word-3 : tie.Need-slice-aggregate-word-3
+slice-aggregate-word-3 c = search needs
+
+-- src/lib.rt:338:8
+word-requires-3 : tie.Need-word-requires-3
+word-requires-3 c κs = search needs
+
+-- src/lib.rt:339:13
+pass-requires-3 : tie.Need-pass-requires-3
+pass-requires-3 c κs = search needs
+
+-- src/lib.rt:340:13
 eat-ws-requires-2 : tie.Need-eat-ws-requires-2
 eat-ws-requires-2 c κs = search needs
 
--- src/lib.rt:337:13
+-- src/lib.rt:341:13
 parse-int-requires : tie.Need-parse-int-requires
-parse-int-requires c κs = search needs
+parse-int-requires c κs = c .before .before .before .before .before .before .before .before .before .before .before .before .before .before .before .before .before .before .before .before .before .pre
 
--- src/lib.rt:339:9
-returns-6 : tie.Need-returns-6
+-- src/lib.rt:343:9
+returns-7 : tie.Need-returns-7
 unfolding skipAttrsIn parenAttrs flagAttrs groupDigits _>>=_
-returns-6 c = record { again = λ e u. g-then _ (c .before .before .before .before .before .before .before .before .before .before .before .before .before .before .before .before .before .eat-ws .ensures) (g-byte-no _ _ (c .before .before .before .before .before .before .before .before .before .before .before .before .before .before .before .before .looks .ensures) (c .before .before .before .before .before .before .before .before .before .before .before .before .before .before .before .if1 .left) (g-at-no _ _ (c .before .before .before .before .before .before .before .before .before .before .before .before .before .before .looks2 .ensures) (c .before .before .before .before .before .before .before .before .before .before .before .before .before .if2 .left) (g-rank-no _ _ _ (c .before .before .before .before .before .before .before .paren-attr .ensures) (c .before .before .before .before .before .before .if5 .left) (g-word-yes _ _ (c .before .before .before .before .word2 .ensures) (c .before .before .before .if6 .taken) (c .before .before .pass2 .ensures) (g-then _ (c .before .eat-ws2 .ensures) (g-then _ (c .parse-int .ensures) g-stay)))))); over = λ e u. true-false (sym e) }
+returns-7 c = record { again = λ e u. g-then _ (c .before .before .before .before .before .before .before .before .before .before .before .before .before .before .before .before .before .before .before .before .eat-ws .ensures) (g-byte-no _ _ (c .before .before .before .before .before .before .before .before .before .before .before .before .before .before .before .before .before .before .before .looks .ensures) (c .before .before .before .before .before .before .before .before .before .before .before .before .before .before .before .before .before .before .if1 .left) (g-at-no _ _ (c .before .before .before .before .before .before .before .before .before .before .before .before .before .before .before .before .before .looks2 .ensures) (c .before .before .before .before .before .before .before .before .before .before .before .before .before .before .before .before .if2 .left) (g-rank-no _ _ _ (c .before .before .before .before .before .before .before .paren-attr .ensures) (c .before .before .before .before .before .before .if6 .left) (g-word-yes _ _ (c .before .before .before .before .word3 .ensures) (c .before .before .before .if7 .taken) (c .before .before .pass3 .ensures) (g-then _ (c .before .eat-ws2 .ensures) (g-then _ (c .parse-int .ensures) g-stay)))))); over = λ e u. true-false (sym e) }
 
--- src/lib.rt:341:9
+-- src/lib.rt:345:9
 flag-attr-requires : tie.Need-flag-attr-requires
 flag-attr-requires c κs = search needs
 
--- src/lib.rt:345:9
-returns-7 : tie.Need-returns-7
-unfolding skipAttrsIn parenAttrs flagAttrs groupDigits _>>=_
-returns-7 c = record { again = λ e u. g-then _ (c .before .before .before .before .before .before .before .before .before .before .before .before .before .before .before .before .eat-ws .ensures) (g-byte-no _ _ (c .before .before .before .before .before .before .before .before .before .before .before .before .before .before .before .looks .ensures) (c .before .before .before .before .before .before .before .before .before .before .before .before .before .before .if1 .left) (g-at-no _ _ (c .before .before .before .before .before .before .before .before .before .before .before .before .before .looks2 .ensures) (c .before .before .before .before .before .before .before .before .before .before .before .before .if2 .left) (g-rank-no _ _ _ (c .before .before .before .before .before .before .paren-attr .ensures) (c .before .before .before .before .before .if5 .left) (g-word-no _ _ (c .before .before .before .word2 .ensures) (c .before .before .if6 .left) (g-rank-yes _ _ _ (c .before .flag-attr .ensures) (c .if7 .taken) g-stay))))); over = λ e u. true-false (sym e) }
-
--- src/lib.rt:307:1
+-- src/lib.rt:349:9
 returns-8 : tie.Need-returns-8
 unfolding skipAttrsIn parenAttrs flagAttrs groupDigits _>>=_
-returns-8 c = record { again = λ e u. true-false e; over = λ e u. g-then _ (c .before .before .before .before .before .before .before .before .before .before .before .before .before .before .before .before .eat-ws .ensures) (g-byte-no _ _ (c .before .before .before .before .before .before .before .before .before .before .before .before .before .before .before .looks .ensures) (c .before .before .before .before .before .before .before .before .before .before .before .before .before .before .if1 .left) (g-at-no _ _ (c .before .before .before .before .before .before .before .before .before .before .before .before .before .looks2 .ensures) (c .before .before .before .before .before .before .before .before .before .before .before .before .if2 .left) (g-rank-no _ _ _ (c .before .before .before .before .before .before .paren-attr .ensures) (c .before .before .before .before .before .if5 .left) (g-word-no _ _ (c .before .before .before .word2 .ensures) (c .before .before .if6 .left) (g-rank-no _ _ _ (c .before .flag-attr .ensures) (c .if7 .left) g-done))))) }
+returns-8 c = record { again = λ e u. g-then _ (c .before .before .before .before .before .before .before .before .before .before .before .before .before .before .before .before .before .before .before .eat-ws .ensures) (g-byte-no _ _ (c .before .before .before .before .before .before .before .before .before .before .before .before .before .before .before .before .before .before .looks .ensures) (c .before .before .before .before .before .before .before .before .before .before .before .before .before .before .before .before .before .if1 .left) (g-at-no _ _ (c .before .before .before .before .before .before .before .before .before .before .before .before .before .before .before .before .looks2 .ensures) (c .before .before .before .before .before .before .before .before .before .before .before .before .before .before .before .if2 .left) (g-rank-no _ _ _ (c .before .before .before .before .before .before .paren-attr .ensures) (c .before .before .before .before .before .if6 .left) (g-word-no _ _ (c .before .before .before .word3 .ensures) (c .before .before .if7 .left) (g-rank-yes _ _ _ (c .before .flag-attr .ensures) (c .if8 .taken) g-stay))))); over = λ e u. true-false (sym e) }
+
+-- src/lib.rt:307:1
+returns-9 : tie.Need-returns-9
+unfolding skipAttrsIn parenAttrs flagAttrs groupDigits _>>=_
+returns-9 c = record { again = λ e u. true-false e; over = λ e u. g-then _ (c .before .before .before .before .before .before .before .before .before .before .before .before .before .before .before .before .before .before .before .eat-ws .ensures) (g-byte-no _ _ (c .before .before .before .before .before .before .before .before .before .before .before .before .before .before .before .before .before .before .looks .ensures) (c .before .before .before .before .before .before .before .before .before .before .before .before .before .before .before .before .before .if1 .left) (g-at-no _ _ (c .before .before .before .before .before .before .before .before .before .before .before .before .before .before .before .before .looks2 .ensures) (c .before .before .before .before .before .before .before .before .before .before .before .before .before .before .before .if2 .left) (g-rank-no _ _ _ (c .before .before .before .before .before .before .paren-attr .ensures) (c .before .before .before .before .before .if6 .left) (g-word-no _ _ (c .before .before .before .word3 .ensures) (c .before .before .if7 .left) (g-rank-no _ _ _ (c .before .flag-attr .ensures) (c .if8 .left) g-done))))) }
 
 pub attr-step-spec : {M : Type 1} → statement M
 attr-step-spec =
@@ -152,15 +169,19 @@ attr-step-spec =
     slice-aggregate-word
     word-requires
     returns-4
-    paren-attr-requires
-    skip-parens-requires
-    returns-5
     slice-aggregate-word-2
     word-requires-2
     pass-requires-2
+    returns-5
+    paren-attr-requires
+    skip-parens-requires
+    returns-6
+    slice-aggregate-word-3
+    word-requires-3
+    pass-requires-3
     eat-ws-requires-2
     parse-int-requires
-    returns-6
-    flag-attr-requires
     returns-7
-    returns-8)
+    flag-attr-requires
+    returns-8
+    returns-9)

@@ -8,7 +8,7 @@ use Rattle.lexer.specs.Reads.{Leads, reach}
 use Rattle.lexer.proofs.Laws.{stay}
 use Rattle.instructions.specs.Rich.{richly}
 use Rattle.instructions.proofs.RichLaws.{enrich}
-use Rattle.blocks.proofs.BlockLaws.{body-tail, body-label, body-instruction, body-terminator, body-out}
+use Rattle.blocks.proofs.BlockLaws.{lead-anew, body-tail, body-label, body-instruction, body-terminator, body-out}
 use borrow.Author.Needs.{needs}
 use Rattle.blocks.proofs.parse_body.Statement.{statement}
 use Rattle.blocks.proofs.parse_body.Tie as tie
@@ -48,17 +48,21 @@ returns c = body-tail _ _ _ _ (c .before .before .before .before .before .loop .
 parse-statement-requires : tie.Need-parse-statement-requires Inv-loop μ-loop
 parse-statement-requires c κs = search needs
 
+-- src/lib.rt:61:18
+anew-requires : tie.Need-anew-requires Inv-loop μ-loop
+anew-requires c κs = search needs
+
 -- src/lib.rt:143:13
 sub-left : tie.Need-sub-left Inv-loop μ-loop
-sub-left c = omega (arith, c .before .before .before .before .before .before .before .before .loop-test .taken)
+sub-left c = omega (arith, c .before .before .before .before .before .before .before .before .before .loop-test .taken)
 
 -- src/lib.rt:125:5
 loop-less : tie.Need-loop-less Inv-loop μ-loop
-loop-less c = omega (arith, c .before .before .before .before .before .before .before .before .loop-test .taken)
+loop-less c = omega (arith, c .before .before .before .before .before .before .before .before .before .loop-test .taken)
 
 -- src/lib.rt:125:5
 loop-again : tie.Need-loop-again Inv-loop μ-loop
-loop-again c = (omega (arith, c .before .before .before .before .before .before .before .before .before .loop .inv .0, c .before .before .before .before .before .before .before .before .loop-test .taken), body-label _ _ _ _ (c .before .before .before .before .before .before .before .before .before .loop .inv .1) (c .before .before .before .before .before .before .before .before .loop-test .taken) (c .before .before .before .before .before .before .before .eat-ws .ensures) (c .before .before .before .before .before .before .looks .ensures) (c .before .before .before .before .before .if1 .left) (c .before .before .before .parse-statement .ensures) (c .if2 .taken), c .before .before .before .parse-statement .kept .1 .1 .0 ∙ c .before .before .before .before .before .before .before .before .before .loop .inv .2)
+loop-again c = (omega (arith, c .before .before .before .before .before .before .before .before .before .before .loop .inv .0, c .before .before .before .before .before .before .before .before .before .loop-test .taken), body-label _ _ _ _ (c .before .before .before .before .before .before .before .before .before .before .loop .inv .1) (c .before .before .before .before .before .before .before .before .before .loop-test .taken) (c .before .before .before .before .before .before .before .before .eat-ws .ensures) (c .before .before .before .before .before .before .before .looks .ensures) (c .before .before .before .before .before .before .if1 .left) (lead-anew (c .before .anew .ensures) (c .before .before .before .before .parse-statement .ensures)) (c .if2 .taken), c .before .before .before .before .parse-statement .kept .1 .1 .0 ∙ c .before .before .before .before .before .before .before .before .before .before .loop .inv .2)
 
 -- src/lib.rt:146:21
 place-requires : tie.Need-place-requires Inv-loop μ-loop
@@ -70,27 +74,27 @@ over-at-requires c κs = search needs
 
 -- src/lib.rt:149:17
 add-n : tie.Need-add-n Inv-loop μ-loop
-add-n c = omega (arith, c .before .before .before .before .before .before .before .before .before .before .before .before .loop .inv .0)
+add-n c = omega (arith, c .before .before .before .before .before .before .before .before .before .before .before .before .before .loop .inv .0)
 
 -- src/lib.rt:150:17
 sub-left-2 : tie.Need-sub-left-2 Inv-loop μ-loop
-sub-left-2 c = omega (arith, c .before .before .before .before .before .before .before .before .before .before .before .loop-test .taken)
+sub-left-2 c = omega (arith, c .before .before .before .before .before .before .before .before .before .before .before .before .loop-test .taken)
 
 -- src/lib.rt:125:5
 loop-less-2 : tie.Need-loop-less-2 Inv-loop μ-loop
-loop-less-2 c = omega (arith, c .before .before .before .before .before .before .before .before .before .before .before .loop-test .taken)
+loop-less-2 c = omega (arith, c .before .before .before .before .before .before .before .before .before .before .before .before .loop-test .taken)
 
 -- src/lib.rt:125:5
 loop-again-2 : tie.Need-loop-again-2 Inv-loop μ-loop
-loop-again-2 c = (omega (arith, c .before .before .before .before .before .before .before .before .before .before .before .before .loop .inv .0, c .before .before .before .before .before .before .before .before .before .before .before .loop-test .taken), body-instruction _ _ _ _ (c .before .before .before .before .before .before .before .before .before .before .before .before .loop .inv .1) (c .before .before .before .before .before .before .before .before .before .before .before .loop-test .taken) (c .before .before .before .before .before .before .before .before .before .before .eat-ws .ensures) (c .before .before .before .before .before .before .before .before .before .looks .ensures) (c .before .before .before .before .before .before .before .before .if1 .left) (c .before .before .before .before .before .before .parse-statement .ensures) _ _ (c .before .before .if3 .taken) (c .before .place .ensures) (c .over-at .ensures), c .before .before .before .before .before .before .parse-statement .kept .1 .1 .0 ∙ c .before .before .before .before .before .before .before .before .before .before .before .before .loop .inv .2)
+loop-again-2 c = (omega (arith, c .before .before .before .before .before .before .before .before .before .before .before .before .before .loop .inv .0, c .before .before .before .before .before .before .before .before .before .before .before .before .loop-test .taken), body-instruction _ _ _ _ (c .before .before .before .before .before .before .before .before .before .before .before .before .before .loop .inv .1) (c .before .before .before .before .before .before .before .before .before .before .before .before .loop-test .taken) (c .before .before .before .before .before .before .before .before .before .before .before .eat-ws .ensures) (c .before .before .before .before .before .before .before .before .before .before .looks .ensures) (c .before .before .before .before .before .before .before .before .before .if1 .left) (lead-anew (c .before .before .before .before .anew .ensures) (c .before .before .before .before .before .before .before .parse-statement .ensures)) _ _ (c .before .before .if3 .taken) (c .before .place .ensures) (c .over-at .ensures), c .before .before .before .before .before .before .before .parse-statement .kept .1 .1 .0 ∙ c .before .before .before .before .before .before .before .before .before .before .before .before .before .loop .inv .2)
 
 -- src/lib.rt:152:17
 same-length-2 : tie.Need-same-length-2 Inv-loop μ-loop
-same-length-2 c = c .before .before .before .before .parse-statement .kept .1 .1 .0 ∙ c .before .before .before .before .before .before .before .before .before .before .loop .inv .2
+same-length-2 c = c .before .before .before .before .before .parse-statement .kept .1 .1 .0 ∙ c .before .before .before .before .before .before .before .before .before .before .before .loop .inv .2
 
 -- src/lib.rt:152:17
 returns-2 : tie.Need-returns-2 Inv-loop μ-loop
-returns-2 c = body-terminator _ _ _ _ (c .before .before .before .before .before .before .before .before .before .before .loop .inv .1) (c .before .before .before .before .before .before .before .before .before .loop-test .taken) (c .before .before .before .before .before .before .before .before .eat-ws .ensures) (c .before .before .before .before .before .before .before .looks .ensures) (c .before .before .before .before .before .before .if1 .left) (c .before .before .before .before .parse-statement .ensures) (c .before .if2 .left) (c .if3 .left)
+returns-2 c = body-terminator _ _ _ _ (c .before .before .before .before .before .before .before .before .before .before .before .loop .inv .1) (c .before .before .before .before .before .before .before .before .before .before .loop-test .taken) (c .before .before .before .before .before .before .before .before .before .eat-ws .ensures) (c .before .before .before .before .before .before .before .before .looks .ensures) (c .before .before .before .before .before .before .before .if1 .left) (lead-anew (c .before .before .anew .ensures) (c .before .before .before .before .before .parse-statement .ensures)) (c .before .if2 .left) (c .if3 .left)
 
 -- src/lib.rt:162:9
 refuse-requires : tie.Need-refuse-requires Inv-loop μ-loop
@@ -117,6 +121,7 @@ parse-body-spec =
     same-length
     returns
     parse-statement-requires
+    anew-requires
     sub-left
     loop-less
     loop-again

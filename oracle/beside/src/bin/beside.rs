@@ -1,6 +1,8 @@
 //! Holds a reader against the Rust and the model: `beside SEED COUNT` takes the static library that
-//! ZIMLOKUR_LIB named at build time, `beside --model SEED COUNT` the model, to try the comparison;
-//! `--short` in place of SEED and COUNT takes every short string behind the prefixes.
+//! ZIMLOKUR_LIB named at build time, `beside --model SEED COUNT` the model, to try the comparison.
+//! In place of SEED and COUNT: `--short` takes every short string behind the prefixes, `--bytes` every
+//! edit of one byte of some texts, `--edits SEED COUNT` so many edits, `--values SEED COUNT` so many
+//! types and values.
 
 use beside::port::{Model, Port};
 use beside::shrink::shrink;
@@ -9,7 +11,7 @@ use judge::{files, hex};
 use std::collections::BTreeMap;
 use std::process::ExitCode;
 use texts::rng::Rng;
-use texts::{clang, cover, short, Texts};
+use texts::{clang, cover, maker, mutate, short, Texts};
 
 #[derive(Default)]
 struct Report {
@@ -71,11 +73,19 @@ impl Report {
         }
     }
 
+    /// A re-reading beside the model and beside the reader's own full reading.
+    fn edit(&mut self, port: &dyn Port, call: &reread::Call) {
+        let accepted = self.call(port, call);
+        self.edits = (self.edits.0 + 1, self.edits.1 + accepted);
+        if let Err(why) = reread::as_full(port, call) {
+            self.wrong(&call.older, &format!("{why}\n  {call:?}"));
+        }
+    }
+
     /// An edit of a text, then an altered call.
     fn edits(&mut self, port: &dyn Port, rng: &mut Rng, older: &[u8]) {
         let Some(mut call) = reread::edit(rng, older) else { return };
-        let accepted = self.call(port, &call);
-        self.edits = (self.edits.0 + 1, self.edits.1 + accepted);
+        self.edit(port, &call);
         reread::alter(rng, &mut call);
         let accepted = self.call(port, &call);
         self.altered = (self.altered.0 + 1, self.altered.1 + accepted);
@@ -154,6 +164,70 @@ fn stream(port: &dyn Port, seed: u64, count: u64) -> Report {
     report
 }
 
+/// So many edits, eight of each accepted text, and as many altered calls.
+fn edits(port: &dyn Port, seed: u64, count: u64) -> Report {
+    let mut report = Report::default();
+    let mut texts = Texts::new(seed);
+    let mut rng = Rng::new(seed ^ 0x5bd1_e995);
+    while report.edits.0 < count && report.wrong.len() < SHOWN {
+        let (_, text) = texts.draw();
+        (0..8).for_each(|_| report.edits(port, &mut rng, &text));
+    }
+    report
+}
+
+/// Texts whose every edit of one byte is tried: labels, blocks, quotes, escapes, a comment, each kind of border.
+const FEW: &[&[u8]] = &[
+    b"void @f(){ret void}",
+    b"i32 @f(i32 %x){br label %a a:ret i32 7;c\n}",
+    b"void @\"g\\22\"(ptr %p,...)#0{0: %1=load i8,ptr %p,align 1 br label %b\nb:switch i8 %1,label %c[i8 1,label %d]c:unreachable d:ret void\n}\n",
+    b"double @f(){%x=fadd double 1.5e1,0x7FF0000000000000 call void (i8,...) @g(i8 1,{i8}{i8 2}) ret double %x}",
+];
+
+/// Every edit of one byte of these, one half of them, at the exact fit and with some room.
+fn half_of_bytes(port: &dyn Port, half: usize) -> Report {
+    let mut report = Report::default();
+    for older in FEW {
+        for (i, newer) in reread::one_byte_edits(older).enumerate().filter(|(i, _)| i % 2 == half) {
+            let spare = if i % 4 < 2 { (0, 0) } else { (9, 4) };
+            match reread::call(older, newer, spare) {
+                Some(call) => report.edit(port, &call),
+                None => report.wrong(older, "not accepted"),
+            }
+        }
+    }
+    report
+}
+
+/// Types and values: each by itself, every other one damaged.
+fn values(port: &dyn Port, seed: u64, count: u64) -> Report {
+    let mut report = Report::default();
+    let mut rng = Rng::new(seed);
+    for i in 0..count {
+        let mut text = if i % 4 < 2 {
+            maker::around(&mut rng, |m| {
+                m.text("%x=alloca ");
+                m.ty();
+            })
+        } else {
+            maker::around(&mut rng, |m| {
+                m.text("ret ");
+                m.ty();
+                m.value();
+                m.text(" a:");
+            })
+        };
+        if i % 2 == 1 {
+            mutate::damage(&mut rng, &mut text, b"{ptr addrspace(1)*, [2 x i8] c\"a\\00\", <{i1 true}>}");
+        }
+        report.text(port, &text);
+        if report.wrong.len() >= SHOWN {
+            break;
+        }
+    }
+    report
+}
+
 /// Every short string behind the prefixes, one half of them.
 fn half_of_short(port: &dyn Port, half: u64) -> Report {
     let mut report = Report::default();
@@ -168,10 +242,23 @@ fn half_of_short(port: &dyn Port, half: u64) -> Report {
 
 type Work = Box<dyn FnOnce() -> Report + Send>;
 
-/// The fixed texts and two streams, each of these with a seed of its own, at the same time.
+type Part = fn(&dyn Port, u64, u64) -> Report;
+
+/// Two halves, each with a seed of its own, at the same time.
+fn halves(part: Part, port: &'static dyn Port, seed: u64, count: u64) -> Vec<Work> {
+    let half = move |i: u64| part(port, seed.wrapping_mul(2).wrapping_add(i), (count + i) / 2);
+    vec![Box::new(move || half(0)), Box::new(move || half(1))]
+}
+
+/// The fixed texts and two streams.
 fn stream_work(port: &'static dyn Port, seed: u64, count: u64) -> Vec<Work> {
-    let part = move |i: u64| stream(port, seed.wrapping_mul(2).wrapping_add(i), (count + i) / 2);
-    vec![Box::new(move || fixed(port)), Box::new(move || part(0)), Box::new(move || part(1))]
+    let mut work = halves(stream, port, seed, count);
+    work.push(Box::new(move || fixed(port)));
+    work
+}
+
+fn byte_work(port: &'static dyn Port) -> Vec<Work> {
+    vec![Box::new(move || half_of_bytes(port, 0)), Box::new(move || half_of_bytes(port, 1))]
 }
 
 fn short_work(port: &'static dyn Port) -> Vec<Work> {
@@ -202,12 +289,17 @@ fn library() -> Result<&'static dyn Port, String> {
 
 fn start(args: &[&str]) -> Result<bool, String> {
     let number = |a: &str| a.parse::<u64>().map_err(|_| format!("`{a}` is no number"));
+    let (port, args): (&'static dyn Port, _) = match args {
+        ["--model", rest @ ..] => (&Model, rest),
+        _ => (library()?, args),
+    };
     match args {
-        ["--model", "--short"] => run(short_work(&Model)),
-        ["--model", seed, count] => run(stream_work(&Model, number(seed)?, number(count)?)),
-        ["--short"] => run(short_work(library()?)),
-        [seed, count] => run(stream_work(library()?, number(seed)?, number(count)?)),
-        _ => Err("usage: beside [--model] SEED COUNT | beside [--model] --short".to_string()),
+        ["--short"] => run(short_work(port)),
+        ["--bytes"] => run(byte_work(port)),
+        ["--edits", seed, count] => run(halves(edits, port, number(seed)?, number(count)?)),
+        ["--values", seed, count] => run(halves(values, port, number(seed)?, number(count)?)),
+        [seed, count] => run(stream_work(port, number(seed)?, number(count)?)),
+        _ => Err("usage: beside [--model] ([--edits | --values] SEED COUNT | --short | --bytes)".to_string()),
     }
 }
 
