@@ -1,0 +1,5 @@
+pub mod Same
+pub mod Moves
+pub mod Loops
+pub mod Turned
+pub mod Turns
