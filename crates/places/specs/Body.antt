@@ -4,13 +4,13 @@ use mathlib.Core.Bool.{Bool, true, false}
 use mathlib.Core.List.{List, [], _∷_, _++_}
 use Prim.Native.Nat.{ℕ, zero, suc, _+_, _≤_}
 use native.Mathlib.Omega.{arith}
-use lib.Dec.{T, ltb, leb, eqb}
+use lib.Dec.{T, ltb, eqb}
 use Rattle.program.specs.Choice.{pick}
 use Rattle.program.specs.Prog.{Prog}
 use Rattle.grammar.specs.Lexer.{turns, Word, plain, quoted, spelled}
 use Rattle.grammar.specs.Types.{childLimit}
 use Rattle.grammar.specs.Body.{Statement, label, instruction, terminator, parseInst, asTerminator, opcode, statementOf, wordStatement, parseStatement, finishBlock, overAt, parseBody, parseBlock, paramOf, parseParam, paramItems, parseParamList, parseHead}
-use Rattle.places.specs.Inside.{Inside, ends, Any, then, then-with, done, fails, either}
+use Rattle.places.specs.Inside.{asked, Inside, ends, Any, then, then-with, done, fails, either}
 use Rattle.places.specs.Lexer.{in-refuse, in-place, in-eatWs, in-byteIf, in-expectToken, in-dotsIf, in-readWord, in-nameWord, in-parseGlobalName}
 use Rattle.places.specs.Attributes.{in-parseLinkage, in-skipAttrs, in-skipCallCconv}
 use Rattle.places.specs.Instructions.{in-type, in-isWordThen, in-plainInst, in-valueInst, in-parseRet, in-parseBr, in-parseSwitch, in-parseUnreachable}
@@ -84,7 +84,7 @@ in-paramOf : {n : ℕ} (t : List ℕ) → Inside n Any (paramOf t)
 unfolding paramOf
 in-paramOf t = then in-eatWs λ _. in-byteIf _ (then in-nameWord λ _. done) done
 
-in-parseParam : {n : ℕ} (q : ℕ) → T (leb q 22) → Inside n Any (parseParam q)
+in-parseParam : {n : ℕ} (q : ℕ) → T (asked q) → Inside n Any (parseParam q)
 unfolding parseParam
 in-parseParam q s = then (in-type q s) λ t. then in-skipAttrs λ _. in-paramOf t
 
@@ -103,7 +103,8 @@ in-parseParamList : {n : ℕ} → Inside n Any parseParamList
 unfolding parseParamList
 in-parseParamList = then in-eatWs λ _. in-byteIf _ done (in-paramItems 65534 1 [])
 
-pub in-parseHead : {n : ℕ} → Inside n Any parseHead
+-- a head that is read has ended at its `{`, so none is given, and this holds for any P
+pub in-parseHead : {P : List ℕ → Type 0} {n : ℕ} → Inside n P parseHead
 unfolding parseHead
 in-parseHead =
     then in-parseLinkage λ _. then in-skipAttrs λ _. then in-skipCallCconv λ _. then in-skipAttrs λ _. then (in-type 3 tt) λ _.

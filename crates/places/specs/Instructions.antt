@@ -4,7 +4,7 @@ use mathlib.Core.Bool.{Bool, true, false}
 use mathlib.Core.List.{List, [], _∷_, _++_}
 use mathlib.Core.Option.{Option, none, some}
 use Prim.Native.Nat.{ℕ, zero, suc, _+_, _/_, _^_}
-use lib.Dec.{T, ltb, leb, eqb}
+use lib.Dec.{T, ltb, eqb}
 use lib.ListN.{length, getD}
 use Rattle.program.specs.Prog.{Prog}
 use Rattle.grammar.specs.Kinds.{kIntConst}
@@ -13,14 +13,14 @@ use Rattle.grammar.specs.Attributes.{convFlags}
 use Rattle.grammar.specs.Types.{TypeOut, plain, opened, depthLimit}
 use Rattle.grammar.specs.Values.{parseTypedVal}
 use Rattle.grammar.specs.Instructions.{type, value, labelNode, parseOperand, parseTrailingIn, parseTrailing, orderings, skipAtomicOrdering, twoOperands, parseBin, parseFbin, parseFneg, noParen, parseConv, predicate, parseIcmp, parseFcmp, parseSelect, loadOperands, parseLoad, storeOperands, parseStore, parseCmpxchg, parseExtractvalue, parseFence, allocaRest, parseAlloca, gepInstIndices, parseGepInst, phiItems, parsePhi, parseFreeze, overArg, argItems, parseArgList, funcNode, callRest, callOf, parseCall, parseTailCall, parseRet, target, parseBr, caseWords, caseInt, switchCases, parseSwitch, parseUnreachable, among, isWordThen, valueInst, plainInst}
-use Rattle.places.specs.Inside.{Inside, Any, then, then-with, done, either}
+use Rattle.places.specs.Inside.{asked, Inside, Any, then, then-with, done, either}
 use Rattle.places.specs.Lexer.{in-refuse, in-eatWs, in-byteIf, in-byteAtIf, in-wordIf, in-rankIf, in-tokenIf, in-expectToken, in-expectKeyword, in-skipKeyword, in-skipOne, in-skipAll, in-dotsIf, in-parseLocalName, in-skipParens, in-skipMetadataRef}
 use Rattle.places.specs.Numbers.{in-parseInt}
 use Rattle.places.specs.Attributes.{in-skipAttrs, in-skipCallCconv, in-skipArithFlags, in-skipFastMathFlags}
 use Rattle.places.specs.Types.{in-whole, in-parseTypeList, in-parseType}
 use Rattle.places.specs.Values.{in-gepFlags, in-overType, in-overValue, in-parseValue, in-parseTypedVal}
 
-pub in-type : {n : ℕ} (q : ℕ) → T (leb q 22) → Inside n Any (type q)
+pub in-type : {n : ℕ} (q : ℕ) → T (asked q) → Inside n Any (type q)
 in-type q s = in-whole q s (in-parseType depthLimit)
 
 in-value : {n : ℕ} → Inside n Any value

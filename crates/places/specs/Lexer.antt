@@ -1,17 +1,19 @@
 -- Each program of the lexer refuses inside the text. `in-eatWs` is the law of `eatWs`.
 -- Assumes nothing.
-use mathlib.Core.Bool.{Bool, true, false}
+use mathlib.Core.Path.{_≡_, refl}
+use mathlib.Core.Bool.{Bool, true, false, _&&_}
 use mathlib.Core.List.{List, [], _∷_}
 use Prim.Native.Nat.{ℕ, zero, suc, _+_, _≤_}
 use native.Mathlib.Omega.{arith}
-use lib.Dec.{T, ltb, leb, leb→le, eqb}
+use lib.Dec.{T, ltb, eqb}
 use lib.ListN.{length}
+use borrow.Author.Tests.{ltb-true, ne-eqb}
 use Rattle.program.specs.Choice.{pick}
 use Rattle.program.specs.Prog.{Prog}
 use Rattle.grammar.specs.Lexer.{refuse, place, eatWs, isByte, byteIf, byteAtIf, sameWord, eatN, wordIf, wordAtIf, rank, rankIf, tokenIf, expectToken, expectKeyword, skipKeyword, skipOne, skipAll, threeDots, dotsIf, quoteStep, Word, plain, quoted, quoteEnd, readWord, nameOf, nameWord, parseLocalName, parseGlobalName, balanced, skipParens, skipMetadataRef, stateOf, cstringStep, cstringEnd, cstringAt}
-use Rattle.places.specs.Inside.{Inside, gives, refuses, looks, eats, asks, leads, scans, Any, then, then-with, done, fails, either}
+use Rattle.places.specs.Inside.{and-right, asked, question, Held, Inside, more, gives, refuses, looks, eats, asks, leads, scans, Any, then, then-with, done, fails, either}
 
-pub in-refuse : {A : Type 0} {P : A → Type 0} {n : ℕ} (q : ℕ) → T (leb q 22) → Inside n P (refuse q)
+pub in-refuse : {A : Type 0} {P : A → Type 0} {n : ℕ} (q : ℕ) → T (asked q) → Inside n P (refuse q)
 unfolding refuse
 in-refuse q t = asks λ i l. fails q i t l
 
@@ -23,30 +25,47 @@ pub in-eatWs : {n : ℕ} → Inside n Any eatWs
 unfolding eatWs
 in-eatWs = scans λ w. done
 
+-- no byte is at the text's end
+end-no-byte : (b : ℕ) → isByte b 256 ≡ false
+unfolding isByte
+end-no-byte b = go (ltb b 256) refl
+  where
+    go : (t : Bool) → ltb b 256 ≡ t → (t && eqb 256 b) ≡ false
+    go true e = ne-eqb 256 b (λ z. omega (arith, ltb-true b 256 e))
+    go false e = refl
+
 pub in-byteIf : {A : Type 0} {P : A → Type 0} {n : ℕ} {f g : Prog A} (b : ℕ) → Inside n P f → Inside n P g → Inside n P (byteIf b f g)
 unfolding byteIf
-in-byteIf b h k = looks λ x. either (isByte b x) (eats h) k
+in-byteIf b h k = looks (isByte b) (end-no-byte b) (eats h) k
 
 pub in-byteAtIf : {A : Type 0} {P : A → Type 0} {n : ℕ} {f g : Prog A} (b : ℕ) → Inside n P f → Inside n P g → Inside n P (byteAtIf b f g)
 unfolding byteAtIf
-in-byteAtIf b h k = looks λ x. either (isByte b x) h k
+in-byteAtIf b h k = looks (isByte b) (end-no-byte b) (more (omega arith) h) k
 
-pub in-eatN : {A : Type 0} {P : A → Type 0} {n : ℕ} {f : Prog A} (m : ℕ) → Inside n P f → Inside n P (eatN m f)
+pub in-eatN : {A : Type 0} {P : A → Type 0} {n : ℕ} {f : Prog A} (m : ℕ) → Inside n P f → Held n m P (eatN m f)
 unfolding eatN
 in-eatN zero h = h
 in-eatN (suc m) h = eats (in-eatN m h)
 
+-- a word in the text is as long as the keyword that it is
+same-length : (v w : List ℕ) → sameWord v w ≡ true → length w ≤ length v
+unfolding sameWord
+same-length [] [] e = omega arith
+same-length [] (y ∷ w) e = let z : _≡_ {A = ℕ} 0 1 = cc in absurd (omega arith)
+same-length (x ∷ v) [] e = omega arith
+same-length (x ∷ v) (y ∷ w) e = omega (arith, same-length v w (and-right (eqb x y) (sameWord v w) e))
+
 pub in-wordIf : {A : Type 0} {P : A → Type 0} {n : ℕ} {f g : Prog A} (w : List ℕ) → Inside n P f → Inside n P g → Inside n P (wordIf w f g)
 unfolding wordIf
-in-wordIf w h k = leads λ v. either (sameWord v w) (in-eatN (length w) h) k
+in-wordIf w h k = leads (λ v. sameWord v w) (λ v e. more (same-length v w e) (in-eatN (length w) h)) k
 
-pub in-wordAtIf : {A : Type 0} {P : A → Type 0} {n : ℕ} {f g : Prog A} (w : List ℕ) → Inside n P f → Inside n P g → Inside n P (wordAtIf w f g)
+pub in-wordAtIf : {A : Type 0} {P : A → Type 0} {n : ℕ} {f g : Prog A} (w : List ℕ) → Held n (length w) P f → Inside n P g → Inside n P (wordAtIf w f g)
 unfolding wordAtIf
-in-wordAtIf w h k = leads λ v. either (sameWord v w) h k
+in-wordAtIf w h k = leads (λ v. sameWord v w) (λ v e. more (same-length v w e) h) k
 
 pub in-rankIf : {A : Type 0} {P : A → Type 0} {n : ℕ} {f : ℕ → Prog A} {g : Prog A} (table : List (List ℕ)) → ((r : ℕ) → Inside n P (f r)) → Inside n P g → Inside n P (rankIf table f g)
 unfolding rankIf
-in-rankIf table h k = leads λ w. either (ltb (rank w table) (length table)) (in-eatN (length w) (h (rank w table))) k
+in-rankIf table h k = leads (λ w. ltb (rank w table) (length table)) (λ w e. in-eatN (length w) (h (rank w table))) k
 
 pub in-tokenIf : {A : Type 0} {P : A → Type 0} {n : ℕ} {f g : Prog A} (b : ℕ) → Inside n P f → Inside n P g → Inside n P (tokenIf b f g)
 unfolding tokenIf
@@ -73,11 +92,11 @@ unfolding skipAll
 in-skipAll zero table = done
 in-skipAll (suc u) table = then in-eatWs λ _. in-rankIf table (λ r. in-skipAll u table) done
 
-in-threeDots : {n : ℕ} (q : ℕ) → T (leb q 22) → Inside n Any (threeDots q)
+in-threeDots : {n : ℕ} (q : ℕ) → T (asked q) → Inside n Any (threeDots q)
 unfolding threeDots
 in-threeDots q t = asks λ i l. in-byteIf _ (in-byteIf _ (in-byteIf _ done (fails q i t l)) (fails q i t l)) (fails q i t l)
 
-pub in-dotsIf : {A : Type 0} {P : A → Type 0} {n : ℕ} {f g : Prog A} (q : ℕ) → T (leb q 22) → Inside n P f → Inside n P g → Inside n P (dotsIf q f g)
+pub in-dotsIf : {A : Type 0} {P : A → Type 0} {n : ℕ} {f g : Prog A} (q : ℕ) → T (asked q) → Inside n P f → Inside n P g → Inside n P (dotsIf q f g)
 unfolding dotsIf
 in-dotsIf q t h k = in-byteAtIf _ (then (in-threeDots q t) λ _. h) k
 
@@ -120,7 +139,7 @@ pub in-skipMetadataRef : {n : ℕ} → Inside n Any skipMetadataRef
 unfolding skipMetadataRef
 in-skipMetadataRef = then in-readWord λ _. then in-eatWs λ _. in-byteIf _ (in-byteIf _ (in-balanced _ _) (then in-readWord λ _. done)) done
 
-escape-number : (t : Bool) → T (leb (pick t 13 14) 22)
+escape-number : (t : Bool) → T (asked (pick t 13 14))
 escape-number true = tt
 escape-number false = tt
 
@@ -129,7 +148,7 @@ in-cstringEnd : {n : ℕ} (i : ℕ) (w : List ℕ) → Inside n Any (cstringEnd 
 unfolding cstringEnd
 in-cstringEnd {n} i w =
     either (eqb (stateOf cstringStep 0 w) 0) (in-byteIf 34 done (in-refuse 13 tt))
-    (asks λ j l. let a : j + 1 ≤ n + 1 = omega arith in refuses (leb→le _ 22 (escape-number (eqb (stateOf cstringStep 0 w) 1)), a))
+    (asks λ j l. let a : j + 1 ≤ n + 1 = omega arith in refuses (question _ (escape-number (eqb (stateOf cstringStep 0 w) 1)), a))
 
 pub in-cstringAt : {n : ℕ} (i : ℕ) → Inside n Any (cstringAt i)
 unfolding cstringAt

@@ -6,4 +6,5 @@ pub mod Types
 pub mod Values
 pub mod Instructions
 pub mod Body
+pub mod Runs
 pub mod Places

@@ -2,11 +2,11 @@
 -- Assumes nothing.
 use mathlib.Core.List.{List, [], _++_}
 use Prim.Native.Nat.{ℕ, zero, suc, _+_, _≤_}
-use lib.Dec.{T, leb}
+use lib.Dec.{T}
 use Rattle.program.specs.Prog.{Prog}
 use Rattle.grammar.specs.Lexer.{turns}
 use Rattle.grammar.specs.Types.{TypeOut, plain, opened, childLimit, wholeOf, whole, items, structFields, typeItems, parseTypeList, ptrWords, intType, nameNode, optAddrspace, ptrType, leafTypes, arrayType, structType, packedType, parseBaseType, suffixes, typeWith, noType, parseType}
-use Rattle.places.specs.Inside.{Inside, gives, Any, then, then-with, done, fails}
+use Rattle.places.specs.Inside.{asked, Inside, gives, Any, then, then-with, done, fails}
 use Rattle.places.specs.Lexer.{in-refuse, in-place, in-eatWs, in-byteIf, in-wordIf, in-expectToken, in-expectKeyword, in-dotsIf, in-nameWord, in-skipParens}
 use Rattle.places.specs.Numbers.{in-parseInt}
 use Rattle.places.specs.Attributes.{in-skipAttrs}
@@ -16,12 +16,12 @@ abbrev pub Opens : ℕ → TypeOut → Type 0
 Opens n (plain t) = Unit {0}
 Opens n (opened t l j) = j ≤ n
 
-in-wholeOf : {n : ℕ} (q : ℕ) → T (leb q 22) → (t : TypeOut) → Opens n t → Inside n Any (wholeOf q t)
+in-wholeOf : {n : ℕ} (q : ℕ) → T (asked q) → (t : TypeOut) → Opens n t → Inside n Any (wholeOf q t)
 unfolding wholeOf
 in-wholeOf q s (plain t) o = done
 in-wholeOf q s (opened t l j) o = fails q j s o
 
-pub in-whole : {n : ℕ} {f : Prog TypeOut} (q : ℕ) → T (leb q 22) → Inside n (Opens n) f → Inside n Any (whole q f)
+pub in-whole : {n : ℕ} {f : Prog TypeOut} (q : ℕ) → T (asked q) → Inside n (Opens n) f → Inside n Any (whole q f)
 unfolding whole
 in-whole q s h = then-with h (in-wholeOf q s)
 
@@ -37,7 +37,7 @@ module _ {n : ℕ} {elem : Prog TypeOut} (inside : Inside n (Opens n) elem) wher
   unfolding structFields
   in-structFields = then in-eatWs λ _. in-byteIf _ done (in-items childLimit _ 0 [])
 
-  in-typeItems : (u bad : ℕ) → T (leb bad 22) → (k : ℕ) (acc : List ℕ) → Inside n Any (typeItems u bad elem k acc)
+  in-typeItems : (u bad : ℕ) → T (asked bad) → (k : ℕ) (acc : List ℕ) → Inside n Any (typeItems u bad elem k acc)
   unfolding typeItems
   in-typeItems zero bad b k acc =
       then in-eatWs λ _.
@@ -48,7 +48,7 @@ module _ {n : ℕ} {elem : Prog TypeOut} (inside : Inside n (Opens n) elem) wher
       (then (in-whole 3 tt inside) λ t. then in-skipAttrs λ _. then in-eatWs λ _.
       in-byteIf _ (in-typeItems u bad b (k + 1) (acc ++ t)) (in-byteIf _ done (in-refuse 3 tt)))
 
-  pub in-parseTypeList : (bad : ℕ) → T (leb bad 22) → Inside n Any (parseTypeList bad elem)
+  pub in-parseTypeList : (bad : ℕ) → T (asked bad) → Inside n Any (parseTypeList bad elem)
   unfolding parseTypeList
   in-parseTypeList bad b = then in-eatWs λ _. in-byteIf _ done (in-typeItems 65534 bad b 0 [])
 
@@ -105,7 +105,7 @@ module _ {n : ℕ} {elem : Prog TypeOut} (inside : Inside n (Opens n) elem) wher
       (in-byteIf _ in-packedType
       (in-refuse 5 tt))))
 
-  in-suffixes : (u bad : ℕ) → T (leb bad 22) → (t : List ℕ) → Inside n (Opens n) (suffixes u bad elem t)
+  in-suffixes : (u bad : ℕ) → T (asked bad) → (t : List ℕ) → Inside n (Opens n) (suffixes u bad elem t)
   unfolding suffixes
   in-suffixes zero bad b t = gives tt
   in-suffixes (suc u) bad b t =
@@ -115,11 +115,11 @@ module _ {n : ℕ} {elem : Prog TypeOut} (inside : Inside n (Opens n) elem) wher
       in-byteIf _ (in-suffixes u bad b ptrWords) (gives l))
       (then in-optAddrspace λ _. in-byteIf _ (in-suffixes u bad b ptrWords) (gives tt))
 
-  in-typeWith : (bad : ℕ) → T (leb bad 22) → Inside n (Opens n) (typeWith bad elem)
+  in-typeWith : (bad : ℕ) → T (asked bad) → Inside n (Opens n) (typeWith bad elem)
   unfolding typeWith
   in-typeWith bad b = then in-eatWs λ _. then in-parseBaseType λ t. in-suffixes turns bad b t
 
-no-type : (d : ℕ) → T (leb (noType d) 22)
+no-type : (d : ℕ) → T (asked (noType d))
 unfolding noType
 no-type zero = tt
 no-type (suc d) = tt

@@ -1,23 +1,32 @@
 -- Each program that reads a value refuses inside the text.
 -- Assumes nothing.
+use mathlib.Core.Path.{_≡_, refl}
 use mathlib.Core.Bool.{Bool, true, false}
-use mathlib.Core.List.{List, [], _++_}
+use mathlib.Core.List.{List, [], _∷_, _++_}
 use Prim.Native.Nat.{ℕ, zero, suc, _+_, _≤_}
+use native.Mathlib.Omega.{arith}
+use lib.Dec.{eqb}
 use lib.ListN.{length}
-use Rattle.program.specs.Class.{isDigit}
-use Rattle.program.specs.Prog.{Prog}
-use Rattle.grammar.specs.Lexer.{turns, startsWith}
+use Rattle.program.specs.Class.{classOf, isDigit}
+use Rattle.program.specs.Prog.{Prog, _>>=_}
+use Rattle.grammar.specs.Lexer.{turns, place, startsWith}
 use Rattle.grammar.specs.Types.{TypeOut}
 use Rattle.grammar.specs.Values.{prefixIf, floatNode, numeral, digitIf, numericOr, cstring, leafValues, pairWith, overValue, overType, pairs, pairList, aggregate, packedConst, parseGepFlags, gepIndices, parseCeGep, parseCeConv, parseCeBin, constExprs, valueWith, parseValue, parseTypedVal}
-use Rattle.places.specs.Inside.{Inside, looks, eats, leads, Any, then, then-with, done, fails, either}
+use Rattle.places.specs.Inside.{and-right, Held, Inside, more, looks, eats, asks, leads, Any, then, then-with, done, fails}
 use Rattle.places.specs.Lexer.{in-refuse, in-place, in-eatWs, in-byteIf, in-eatN, in-wordIf, in-wordAtIf, in-rankIf, in-tokenIf, in-expectToken, in-expectKeyword, in-skipKeyword, in-cstringAt, in-skipParens}
 use Rattle.places.specs.Numbers.{in-parseNumeral, in-parseHexFloat, in-parseF0x}
 use Rattle.places.specs.Attributes.{in-skipArithFlags}
 use Rattle.places.specs.Types.{Opens, in-whole, in-nameNode, in-parseType}
 
+starts-length : (w v : List ℕ) → startsWith w v ≡ true → length w ≤ length v
+unfolding startsWith
+starts-length [] v e = omega arith
+starts-length (x ∷ w) [] e = let z : _≡_ {A = ℕ} 0 1 = cc in absurd (omega arith)
+starts-length (x ∷ w) (y ∷ v) e = omega (arith, starts-length w v (and-right (eqb x y) (startsWith w v) e))
+
 in-prefixIf : {A : Type 0} {P : A → Type 0} {n : ℕ} {f g : Prog A} (w : List ℕ) → Inside n P f → Inside n P g → Inside n P (prefixIf w f g)
 unfolding prefixIf
-in-prefixIf w h k = leads λ v. either (startsWith w v) (in-eatN (length w) h) k
+in-prefixIf w h k = leads (startsWith w) (λ v e. more (starts-length w v e) (in-eatN (length w) h)) k
 
 in-floatNode : {n : ℕ} (b : ℕ) → Inside n Any (floatNode b)
 unfolding floatNode
@@ -27,9 +36,13 @@ in-numeral : {n : ℕ} (neg : Bool) → Inside n Any (numeral neg)
 unfolding numeral
 in-numeral neg = then (in-parseNumeral neg) λ _. done
 
+end-no-digit : isDigit 256 ≡ false
+unfolding isDigit classOf
+end-no-digit = refl
+
 in-digitIf : {A : Type 0} {P : A → Type 0} {n : ℕ} {f g : Prog A} → Inside n P f → Inside n P g → Inside n P (digitIf f g)
 unfolding digitIf
-in-digitIf h k = looks λ x. either (isDigit x) h k
+in-digitIf h k = looks isDigit end-no-digit (more (omega arith) h) k
 
 in-numericOr : {n : ℕ} {g : Prog (List ℕ)} → Inside n Any g → Inside n Any (numericOr g)
 unfolding numericOr
@@ -47,9 +60,10 @@ in-numericOr h =
     (in-numeral false)))
     h))
 
-in-cstring : {n : ℕ} → Inside n Any cstring
-unfolding cstring
-in-cstring = then-with in-place λ i l. eats (then-with in-place λ j m. in-byteIf 34 (then (in-cstringAt j) λ _. done) (fails 6 i tt l))
+-- it takes the `c`, so it is held where that is left
+in-cstring : {n : ℕ} → Held n 1 Any cstring
+unfolding cstring place _>>=_
+in-cstring = asks λ i l. eats (asks λ j m. in-byteIf 34 (then (in-cstringAt j) λ _. done) (fails 6 i tt l))
 
 in-leafValues : {n : ℕ} {g : Prog (List ℕ)} → Inside n Any g → Inside n Any (leafValues g)
 unfolding leafValues
