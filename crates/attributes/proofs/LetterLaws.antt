@@ -1,4 +1,4 @@
--- Where no attribute begins, by the first two bytes.
+-- Where no attribute begins, by the first two bytes or by the word.
 -- Assumes nothing.
 use mathlib.Core.Path.{_≡_, refl, sym, ap, _∙_, subst}
 use mathlib.Core.Bool.{Bool, true, false, _&&_, not}
@@ -11,7 +11,7 @@ use borrow.Author.Tests.{le-leb, lt-leb, le-ltb, eqb-true}
 use Rattle.program.specs.Class.{isWord}
 use Rattle.program.specs.Prog.{Prog, Res, run, leadWord}
 use Rattle.grammar.specs.Lexer.{sameWord, eatN, wordIf, rank, rankIf}
-use Rattle.lexer.specs.Step.{wordP}
+use Rattle.lexer.specs.Step.{wordP, rankP}
 use Rattle.lexer.specs.Reads.{Aim, Finds}
 use Rattle.lexer.specs.declared.Cursor.{Cursor}
 use Rattle.lexer.specs.declared.Parsed.{Parsed}
@@ -91,6 +91,33 @@ same-is (x ∷ w) (y ∷ k) e =
     let a : x ≡ y = eqb-true x y (and-left (eqb x y) (sameWord w k) e) in
     rw (a, same-is w k (and-right (eqb x y) (sameWord w k) e))
 
+-- ---- two tables that have no word in common
+unfoldable pub apart : List (List ℕ) → List (List ℕ) → Bool
+apart [] table = true
+apart (k ∷ ks) table = eqb (rank k table) (length table) && apart ks table
+
+-- a word of the first is not in the second
+apart-none : (small table : List (List ℕ)) (w : List ℕ) → apart small table ≡ true → rank w small < length small → rank w table ≡ length table
+unfolding apart rank
+apart-none [] table w t h = absurd (omega arith)
+apart-none (k ∷ ks) table w t h = go (apart-none ks table w (and-right (eqb (rank k table) (length table)) (apart ks table) t)) (sameWord w k) refl
+  where
+    go : (rank w ks < length ks → rank w table ≡ length table) → (b : Bool) → sameWord w k ≡ b → rank w table ≡ length table
+    go rest true e = ap (λ (z : List ℕ). rank z table) (same-is w k e) ∙ eqb-true (rank k table) (length table) (and-left (eqb (rank k table) (length table)) (apart ks table) t)
+    go rest false e = let z : rank w (k ∷ ks) ≡ suc (rank w ks) = rw (rank, e) in rest (omega (arith, z, h))
+
+-- nor is it the second's one word
+apart-other : (small : List (List ℕ)) (k w : List ℕ) → apart small (k ∷ []) ≡ true → rank w small < length small → sameWord w k ≡ false
+unfolding rank
+apart-other small k w t h = go (sameWord w k) refl
+  where
+    go : (b : Bool) → sameWord w k ≡ b → b ≡ false
+    go false e = refl
+    go true e =
+        let z : rank w (k ∷ []) ≡ 0 = rw (rank, e) in
+        let o : rank w (k ∷ []) ≡ 1 = apart-none small (k ∷ []) w t h in
+        absurd (omega (arith, z, o))
+
 in-run : {A : Type 0} (kw : List ℕ) (table : List (List ℕ)) (f : ℕ → Prog A) (g : Prog A) (i : ℕ) (s : List ℕ) → ltb (rank kw table) (length table) ≡ true → sameWord (leadWord s) kw ≡ true → run (rankIf table f g) i s ≡ run (wordIf kw (f (rank kw table)) g) i s
 unfolding run rankIf wordIf
 in-run kw table f g i s t e =
@@ -119,6 +146,19 @@ module _ {A : Type 0} {E : Aim A} {text : List ℕ} {p p′ : Parsed} where
   pub known-word : {g : Prog A} (kw : List ℕ) (k : List ℕ) (f : Prog A) {r : Bool} → sameWord kw k ≡ false → r ≡ wordP text p kw → r ≡ true → Finds g E text p p′ → Finds (wordIf k f g) E text p p′
   known-word {g} kw k f {r} t l y s = record {
     runs = λ cur e i. subst (λ (z : Res A). E .ends (cur .at) (cur .w) z p′) (sym (word-run k f g (cur .at) (drop (cur .at) text) (ap (λ (w : List ℕ). sameWord w k) (same-is (leadWord (drop (cur .at) text)) kw (ap (λ (z : Parsed). wordP text z kw) (sym e) ∙ sym l ∙ y)) ∙ t))) (s .runs cur e i);
+    hands = s .hands;
+  }
+
+  -- behind a word of a table that has no word of the other
+  pub apart-rank : {g : Prog A} (small table : List (List ℕ)) (f : ℕ → Prog A) {n : ℕ} → apart small table ≡ true → n ≡ rankP small text p → n < length small → Finds g E text p p′ → Finds (rankIf table f g) E text p p′
+  apart-rank {g} small table f {n} t l y s = record {
+    runs = λ cur e i. subst (λ (z : Res A). E .ends (cur .at) (cur .w) z p′) (sym (rank-run table f g (cur .at) (drop (cur .at) text) (apart-none small table (leadWord (drop (cur .at) text)) t (subst (λ (m : ℕ). m < length small) (l ∙ ap (rankP small text) e) y)))) (s .runs cur e i);
+    hands = s .hands;
+  }
+
+  pub apart-word : {g : Prog A} (small : List (List ℕ)) (k : List ℕ) (f : Prog A) {n : ℕ} → apart small (k ∷ []) ≡ true → n ≡ rankP small text p → n < length small → Finds g E text p p′ → Finds (wordIf k f g) E text p p′
+  apart-word {g} small k f {n} t l y s = record {
+    runs = λ cur e i. subst (λ (z : Res A). E .ends (cur .at) (cur .w) z p′) (sym (word-run k f g (cur .at) (drop (cur .at) text) (apart-other small k (leadWord (drop (cur .at) text)) t (subst (λ (m : ℕ). m < length small) (l ∙ ap (rankP small text) e) y)))) (s .runs cur e i);
     hands = s .hands;
   }
 

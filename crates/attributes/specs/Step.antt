@@ -6,6 +6,7 @@ use mathlib.Core.List.{List, [], _∷_}
 use Prim.Native.Nat.{ℕ, suc}
 use lib.Dec.{leb}
 use lib.ListN.{drop}
+use Rattle.program.specs.Bytes.{bytes}
 use Rattle.program.specs.Prog.{Prog, ret, scan}
 use Rattle.grammar.specs.Attributes.{groupStep, skipAttrsIn}
 use Rattle.lexer.specs.Reads.{Gives, Comes}
@@ -35,3 +36,8 @@ letters (x ∷ y ∷ s) = isSmall x && isSmall y
 abbrev pub lettersP : List ℕ → Parsed → Bool
 lettersP text (Ok c) = letters (drop (c .at) text)
 lettersP text (Refused e q) = false
+
+-- words that often stand where an attribute might, and are none
+unfoldable pub noAttrs : List (List ℕ)
+noAttrs =
+    bytes "ptr" ∷ bytes "void" ∷ bytes "br" ∷ bytes "ret" ∷ bytes "store" ∷ bytes "call" ∷ bytes "tail" ∷ bytes "switch" ∷ []

@@ -9,7 +9,7 @@ ghost use lib.ListN.{drop};
 ghost use Rattle.program.specs.Prog.{scanLen};
 ghost use Rattle.grammar.specs.Lexer.{skipAll, turns};
 ghost use Rattle.grammar.specs.Attributes.{parenAttrs, flagAttrs, linkages, callingConventions, convFlags, skipArithFlags, skipFastMathFlags, parseLinkage, skipCallCconv, groupStep, skipAttrs};
-ghost use Rattle.attributes.specs.Step.{groupDigits, AttrStep, letters, lettersP};
+ghost use Rattle.attributes.specs.Step.{groupDigits, AttrStep, letters, lettersP, noAttrs};
 ghost use Rattle.lexer.specs.Table.{Classes};
 ghost use Rattle.lexer.specs.Step.{rankP, rankedP};
 ghost use Rattle.lexer.specs.Reads.{Gives};
@@ -159,6 +159,15 @@ fn cconv(classes: &[u8; 256], text: &[u8], p: Parsed) -> Ranked
     )
 }
 
+// Words that often stand where an attribute might, and are none: types, and words that begin a statement.
+fn no_attr(classes: &[u8; 256], text: &[u8], p: Parsed) -> Ranked
+    requires { ⌜ Classes (now classes) ⌝ }
+    ensures { λ r. ⌜ (r .r ≡ rankP noAttrs (now (text .entry)) p) × (r .p ≡ rankedP noAttrs (now (text .entry)) p) ⌝ }
+{
+    let lens: [u8; 8] = [3, 4, 2, 3, 5, 4, 4, 6];
+    lexer::match_rank(classes, text, p, &lens, b"ptrvoidbrretstorecalltailswitch")
+}
+
 // Flags of integer arithmetic.
 pub fn skip_arith_flags(classes: &[u8; 256], text: &[u8], p: Parsed) -> Parsed
     requires { ⌜ Classes (now classes) ⌝ }
@@ -303,7 +312,8 @@ fn two_letters(text: &[u8], p: Parsed) -> bool
     }
 }
 
-// One attribute, or none. Where no two letters stand, and at `ptr`, none does, and no table is searched; nor is one for `noundef`, the most frequent.
+// One attribute, or none. Where no two letters stand, none does, and no table is searched; nor is one for `noundef`, the most frequent.
+// The small table of words that are none is asked before the two long ones.
 fn attr_step(classes: &[u8; 256], text: &[u8], p: Parsed) -> Passed
     requires { ⌜ Classes (now classes) ⌝ }
     ensures { λ r. ⌜ AttrStep (now (text .entry)) p (r .p) (r .more) ⌝ }
@@ -321,12 +331,13 @@ fn attr_step(classes: &[u8; 256], text: &[u8], p: Parsed) -> Passed
     if !two_letters(text, q) {
         return Passed { p: q, more: false };
     }
-    if lexer::word(classes, text, q, b"ptr") {
-        return Passed { p: q, more: false };
-    }
     if lexer::word(classes, text, q, b"noundef") {
         let q1 = lexer::pass(text, q, 7);
         return Passed { p: q1, more: true };
+    }
+    let n = no_attr(classes, text, q);
+    if n.r < 8 {
+        return Passed { p: q, more: false };
     }
     let k = paren_attr(classes, text, q);
     let q1 = k.p;

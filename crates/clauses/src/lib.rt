@@ -205,13 +205,12 @@ pub fn target(classes: &[u8; 256], text: &[u8], p: Parsed) -> Num
     lexer::parse_local_name(classes, text, q1)
 }
 
-// The node of a label.
+// The node of a label. Its header is a constant: kind 63, two words.
 pub fn label_node(words: &mut [u64], p: Parsed, name: u64) -> Parsed
     ensures { λ r. ⌜ ((text : List ℕ) → Leads (ret (labelNode name)) 2 [] (made same text p) text p p (now (words .entry)) r (now (words .exit))) ⌝ }
 {
-    let q = lexer::push(words, p, 0);
-    let q1 = lexer::push(words, q, name);
-    lexer::close(words, p, q1, 63, 0, 0)
+    let q = lexer::push(words, p, 4539628424389459970);
+    lexer::push(words, q, name)
 }
 
 // Is `atomic` the next word?

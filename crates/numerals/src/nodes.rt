@@ -5,7 +5,6 @@ use crate::reads::parse_numeral;
 use crate::scans::short_digits;
 use lexer::Cursor;
 use lexer::Parsed;
-use lexer::close;
 use lexer::push;
 use literals::literal::Literal;
 ghost use mathlib.Core.List.{List, [], _∷_};
@@ -19,23 +18,21 @@ ghost use Rattle.lexer.specs.Table.{Classes};
 ghost use Rattle.lexer.specs.Reads.{Leads, Reads, made, same};
 ghost use Rattle.numerals.specs.Constants.{hexValue, f0xValue};
 
-// A float's node.
+// A float's node. Its header is a constant: kind 19, two words.
 pub fn float_node(words: &mut [u64], p: Parsed, bits: u64) -> Parsed
     ensures { λ r. ⌜ ((text : List ℕ) → Leads (floatNode bits) 2 [] (made same text p) text p p (now (words .entry)) r (now (words .exit))) ⌝ }
 {
-    let p1 = push(words, p, 0);
-    let p2 = push(words, p1, bits);
-    close(words, p, p2, 19, 0, 0)
+    let p1 = push(words, p, 1369094286720630786);
+    push(words, p1, bits)
 }
 
-// An integer's node.
+// An integer's node. Its header is a constant: kind 18, three words.
 pub fn int_node(words: &mut [u64], p: Parsed, hi: u64, lo: u64) -> Parsed
     ensures { λ r. ⌜ ((text : List ℕ) → Leads (ret (node kIntConst 0 0 (hi ∷ lo ∷ []))) 3 [] (made same text p) text p p (now (words .entry)) r (now (words .exit))) ⌝ }
 {
-    let p1 = push(words, p, 0);
+    let p1 = push(words, p, 1297036692682702851);
     let p2 = push(words, p1, hi);
-    let p3 = push(words, p2, lo);
-    close(words, p, p3, 18, 0, 0)
+    push(words, p2, lo)
 }
 
 // The node of an integer of 64 bits and a sign.

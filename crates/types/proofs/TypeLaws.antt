@@ -13,6 +13,7 @@ use borrow.Author.Tests.{ne-eqb, eq-eqb, lt-ltb, eqb-true}
 use Rattle.program.specs.Bytes.{bytes}
 use Rattle.program.specs.Class.{classOf, isSpace, isWord}
 use Rattle.program.specs.Prog.{Prog, ret, fail, look, eat, here, lead, scan, last, Res, ok, closed, no-at, run, _>>=_, byteAt, leadWord, scanLen, next, run-bind}
+use Rattle.records.specs.Words.{header, node}
 use Rattle.grammar.specs.Lexer.{spaceStep, eatWs, refuse, place, isByte, byteIf, byteAtIf, eatN, wordIf, rankIf, rank, sameWord, expectToken, threeDots, dotsIf, skipParens}
 use Rattle.grammar.specs.Attributes.{parenAttrs, flagAttrs, skipAttrsIn, skipAttrs}
 use Rattle.grammar.specs.Types.{Listed, listed, countOf, wordsOf, TypeOut, plain, opened, wholeOf, whole, items, structFields, typeItems, parseTypeList, ptrWords, intType, nameNode, arrayType, structType, packedType, leafTypes, optAddrspace, parseBaseType, suffixes, typeWith, noType, parseType}
@@ -46,6 +47,14 @@ not-addrspace {text} {p} e y = g-word-no (bytes "addrspace") skipParens refl (no
 -- the same answer, made anew
 pub anew-is : {A : Type 0} {f : Prog A} {a : A} {text : List ℕ} {p q r : Parsed} → r ≡ q → Gives f a text p q → Gives f a text p r
 anew-is {A} {f} {a} {text} {p} e h = subst (λ (z : Parsed). Gives f a text p z) (sym e) h
+
+-- the words that are given stand there
+pub done-as : {c : ℕ} {mid ws text : List ℕ} {p0 p : Parsed} {w : List ℕ} → ws ≡ mid → Leads (ret ws) c mid (made same text p0) text p0 p w p w
+done-as {c} {mid} {ws} {text} {p0} {p} {w} e = subst (λ (z : List ℕ). Leads (ret z) c mid (made same text p0) text p0 p w p w) (sym e) done
+
+pub headed : (h kind x : ℕ) → h ≡ header kind 0 0 2 → node kind 0 0 (x ∷ []) ≡ h ∷ x ∷ []
+unfolding node
+headed h kind x e = ap (λ (y : ℕ). y ∷ x ∷ []) (sym e)
 
 -- ---- a type that must be whole, then the rest
 -- at a parenthesis what comes next refuses with q

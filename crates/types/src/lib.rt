@@ -5,19 +5,26 @@ ghost use mathlib.Core.Path.{_≡_};
 ghost use mathlib.Core.List.{List, [], _∷_};
 ghost use Prim.Native.Nat.{ℕ, _+_, _<_};
 ghost use Rattle.program.specs.Prog.{ret};
-ghost use Rattle.records.specs.Words.{node};
+ghost use Rattle.records.specs.Words.{header, node};
 ghost use Rattle.grammar.specs.Lexer.{refuse};
 ghost use Rattle.grammar.specs.Types.{listed, structFields, parseTypeList, intType, nameNode, optAddrspace, ptrType, arrayType, structType, packedType, parseBaseType, suffixes, noType, parseType};
 ghost use Rattle.lexer.specs.Table.{Classes};
 ghost use Rattle.lexer.specs.Reads.{Leads, Reads, Gives, made, same};
 ghost use Rattle.types.specs.Reading.{typed, Types, wordTypes};
 
+// The header of a node of n words without detail and children.
+fn plain_header(kind: u8, n: u8) -> u64
+    ensures { λ r. ⌜ r ≡ header kind 0 0 n ⌝ }
+{
+    (kind as u64) * 72057594037927936 + (n as u64)
+}
+
 // A node that is its header.
 pub fn leaf(words: &mut [u64], p: Parsed, kind: u8) -> Parsed
     ensures { λ r. ⌜ ((text : List ℕ) → Leads (ret (node kind 0 0 [])) 1 [] (made same text p) text p p (now (words .entry)) r (now (words .exit))) ⌝ }
 {
-    let q = lexer::push(words, p, 0);
-    lexer::close(words, p, q, kind, 0, 0)
+    let h = plain_header(kind, 1);
+    lexer::push(words, p, h)
 }
 
 // `iN`, behind the i.
@@ -25,11 +32,11 @@ fn int_type(classes: &[u8; 256], text: &[u8], words: &mut [u64], p: Parsed) -> P
     requires { ⌜ Classes (now classes) ⌝ }
     ensures { λ r. ⌜ Leads intType 2 [] (made same (now (text .entry)) p) (now (text .entry)) p p (now (words .entry)) r (now (words .exit)) ⌝ }
 {
-    let p1 = lexer::push(words, p, 0);
-    let n = lexer::parse_int(classes, text, p1, 1, 8388608);
-    let p2 = n.p;
-    let p3 = lexer::push(words, p2, n.v);
-    lexer::close(words, p, p3, 2, 0, 0)
+    let n = lexer::parse_int(classes, text, p, 1, 8388608);
+    let p1 = n.p;
+    let h = plain_header(2, 2);
+    let p2 = lexer::push(words, p1, h);
+    lexer::push(words, p2, n.v)
 }
 
 // A node that holds a name, behind the sigil.
@@ -37,11 +44,11 @@ pub fn name_node(classes: &[u8; 256], text: &[u8], words: &mut [u64], p: Parsed,
     requires { ⌜ Classes (now classes) ⌝ }
     ensures { λ r. ⌜ Leads (nameNode kind) 2 [] (made same (now (text .entry)) p) (now (text .entry)) p p (now (words .entry)) r (now (words .exit)) ⌝ }
 {
-    let p1 = lexer::push(words, p, 0);
-    let n = lexer::name_word(classes, text, p1);
-    let p2 = n.p;
-    let p3 = lexer::push(words, p2, n.v);
-    lexer::close(words, p, p3, kind, 0, 0)
+    let n = lexer::name_word(classes, text, p);
+    let p1 = n.p;
+    let h = plain_header(kind, 2);
+    let p2 = lexer::push(words, p1, h);
+    lexer::push(words, p2, n.v)
 }
 
 // `addrspace(..)`, where it stands.
@@ -73,13 +80,12 @@ fn ptr_type(classes: &[u8; 256], text: &[u8], words: &mut [u64], p: Parsed) -> P
     requires { ⌜ Classes (now classes) ⌝ }
     ensures { λ r. ⌜ Leads ptrType 1 [] (made same (now (text .entry)) p) (now (text .entry)) p p (now (words .entry)) r (now (words .exit)) ⌝ }
 {
-    let p1 = lexer::push(words, p, 0);
-    let p2 = lexer::eat_ws(classes, text, p1);
-    if lexer::looks(text, p2, 97) {
-        let p3 = addrspace(classes, text, p2);
-        return lexer::close(words, p, p3, 5, 0, 0);
+    let p1 = lexer::eat_ws(classes, text, p);
+    if lexer::looks(text, p1, 97) {
+        let p2 = addrspace(classes, text, p1);
+        return leaf(words, p2, 5);
     }
-    lexer::close(words, p, p2, 5, 0, 0)
+    leaf(words, p1, 5)
 }
 
 // The types that are a word, or 5. No two words stand at one place, so they are tried by how often they come.
