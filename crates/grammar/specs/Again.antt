@@ -95,7 +95,8 @@ word-statement-moves i j s a e = go (run readWord i s) refl
     go (closed ws m) t = let w2 : next (statementOf i) i s (closed ws m) ≡ ok a j = rw t at w in let z : _≡_ {A = ℕ} 0 1 = cc in absurd (omega arith)
     go (no-at q p) t = let w2 : next (statementOf i) i s (no-at q p) ≡ ok a j = rw t at w in let z : _≡_ {A = ℕ} 0 1 = cc in absurd (omega arith)
 
-statement-moves : (i j : ℕ) (s : List ℕ) (a : Statement) → run parseStatement i s ≡ ok a j → suc i ≤ j
+-- a statement takes a byte
+pub statement-moves : (i j : ℕ) (s : List ℕ) (a : Statement) → run parseStatement i s ≡ ok a j → suc i ≤ j
 unfolding parseStatement
 statement-moves i j s a e = byte-moves 37 parseInst wordStatement i j s a (λ m t. word-statement-moves i m s a t) e
 

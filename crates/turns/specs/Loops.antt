@@ -15,7 +15,7 @@ use Rattle.grammar.specs.Values.{parseGepFlags, parseTypedVal}
 use Rattle.grammar.specs.Instructions.{parseTrailingIn, allocaRest, gepInstIndices}
 use Rattle.grammar.specs.Body.{Statement, label, instruction, terminator, parseStatement, finishBlock, overAt, parseBody}
 use Rattle.turns.specs.Same.{Same, Full, alike, no-text, scans, ends, either, then, then-moved, by-byte, by-byte-at, by-word, byte-taken, token-taken, word-taken, rank-taken}
-use Rattle.turns.specs.Moves.{statement-moves}
+use Rattle.grammar.specs.Again.{statement-moves}
 
 -- The tables.
 full-parenAttrs : Full parenAttrs

@@ -29,6 +29,11 @@ fn quoted(text: &str) -> Vec<String> {
     words
 }
 
+/// The quoted words of a list inside one function.
+fn listed(function: &str, end: &str, from: &str, to: &str) -> Vec<String> {
+    quoted(between(between(&parser(), &format!("fn {function}("), end), from, to))
+}
+
 /// The words of a table in the definitions: `NAME = bytes ".." ∷ .. ∷ []`.
 fn table(module: &str, name: &str) -> Vec<String> {
     let text = read(&format!("../../crates/grammar/specs/{module}.antt"));
@@ -67,34 +72,20 @@ fn flags() {
     assert_eq!(table("Attributes", "convFlags"), matched("parse_conv", "let from_ty"));
     assert_eq!(
         table("Instructions", "orderings"),
-        quoted(between(between(&text, "fn skip_atomic_ordering(", "Ok(())\n    }"), "for kw in [", "]"))
+        listed("skip_atomic_ordering", "Ok(())\n    }", "for kw in [", "]")
     );
 }
 
 #[test]
 fn predicates() {
-    let text = parser();
-    assert_eq!(
-        table("Instructions", "icmpPreds"),
-        quoted(between(between(&text, "fn parse_icmp_pred(", "for (kw"), "let preds", "];"))
-    );
-    assert_eq!(
-        table("Instructions", "fcmpPreds"),
-        quoted(between(between(&text, "fn parse_fcmp_pred(", "for (kw"), "let preds", "];"))
-    );
+    assert_eq!(table("Instructions", "icmpPreds"), listed("parse_icmp_pred", "for (kw", "let preds", "];"));
+    assert_eq!(table("Instructions", "fcmpPreds"), listed("parse_fcmp_pred", "for (kw", "let preds", "];"));
 }
 
 #[test]
 fn operators() {
-    let text = parser();
-    assert_eq!(
-        table("Values", "convOps"),
-        quoted(between(between(&text, "fn match_conv_op(", "for (kw"), "const OPS", "];"))
-    );
-    assert_eq!(
-        table("Values", "binOps"),
-        quoted(between(between(&text, "fn match_bin_op(", "for (kw"), "const OPS", "];"))
-    );
+    assert_eq!(table("Values", "convOps"), listed("match_conv_op", "for (kw", "const OPS", "];"));
+    assert_eq!(table("Values", "binOps"), listed("match_bin_op", "for (kw", "const OPS", "];"));
     assert_eq!(table("Values", "binOps"), arms("parse_bin"));
     assert_eq!(table("Instructions", "fbinOps"), arms("parse_fbin"));
     assert_eq!(table("Instructions", "instConvOps"), arms("parse_conv"));
