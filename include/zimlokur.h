@@ -14,6 +14,119 @@
 extern "C" {
 #endif
 
+/* The questions: what a call returns where it refuses. 0 is no question: accepted. */
+enum zimlokur_question {
+    ZIMLOKUR_Q_LENGTH = 1,
+    ZIMLOKUR_Q_ASCII = 2,
+    ZIMLOKUR_Q_TOKEN = 3,
+    ZIMLOKUR_Q_DIGIT = 4,
+    ZIMLOKUR_Q_TYPE = 5,
+    ZIMLOKUR_Q_VALUE = 6,
+    ZIMLOKUR_Q_LITERAL = 7,
+    ZIMLOKUR_Q_STATEMENT = 8,
+    ZIMLOKUR_Q_OPCODE = 9,
+    ZIMLOKUR_Q_PREDICATE = 10,
+    ZIMLOKUR_Q_TRAILING = 11,
+    ZIMLOKUR_Q_CASE = 12,
+    ZIMLOKUR_Q_CLOSED = 13,
+    ZIMLOKUR_Q_ESCAPE = 14,
+    ZIMLOKUR_Q_NUMBER = 15,
+    ZIMLOKUR_Q_DEPTH = 16,
+    ZIMLOKUR_Q_DECIMAL = 17,
+    ZIMLOKUR_Q_LEFT_OUT = 18,
+    ZIMLOKUR_Q_CHILDREN = 19,
+    ZIMLOKUR_Q_WORDS = 20,
+    ZIMLOKUR_Q_ENTRIES = 21,
+    ZIMLOKUR_Q_OLDER = 22
+};
+
+/* Kinds of nodes: the upper 8 bits of a header. */
+enum zimlokur_kind {
+    ZIMLOKUR_K_VOID = 1,
+    ZIMLOKUR_K_INT = 2,
+    ZIMLOKUR_K_FLOAT = 3,
+    ZIMLOKUR_K_DOUBLE = 4,
+    ZIMLOKUR_K_PTR = 5,
+    ZIMLOKUR_K_ARRAY = 6,
+    ZIMLOKUR_K_NAMED = 7,
+    ZIMLOKUR_K_STRUCT = 8,
+    ZIMLOKUR_K_LABEL = 9,
+    ZIMLOKUR_K_METADATA = 10,
+    ZIMLOKUR_K_FUNC = 11,
+    ZIMLOKUR_K_LOCAL = 16,
+    ZIMLOKUR_K_GLOBAL = 17,
+    ZIMLOKUR_K_INT_CONST = 18,
+    ZIMLOKUR_K_FLOAT_CONST = 19,
+    ZIMLOKUR_K_NULL = 20,
+    ZIMLOKUR_K_UNDEF = 21,
+    ZIMLOKUR_K_POISON = 22,
+    ZIMLOKUR_K_ZERO_INIT = 23,
+    ZIMLOKUR_K_CSTR = 24,
+    ZIMLOKUR_K_ARRAY_CONST = 25,
+    ZIMLOKUR_K_STRUCT_CONST = 26,
+    ZIMLOKUR_K_GEP_EXPR = 27,
+    ZIMLOKUR_K_CONV_EXPR = 28,
+    ZIMLOKUR_K_BIN_EXPR = 29,
+    ZIMLOKUR_K_BIN = 32,
+    ZIMLOKUR_K_FBIN = 33,
+    ZIMLOKUR_K_FNEG = 34,
+    ZIMLOKUR_K_CONV = 35,
+    ZIMLOKUR_K_ICMP = 36,
+    ZIMLOKUR_K_FCMP = 37,
+    ZIMLOKUR_K_SELECT = 38,
+    ZIMLOKUR_K_LOAD = 39,
+    ZIMLOKUR_K_STORE = 40,
+    ZIMLOKUR_K_ALLOCA = 41,
+    ZIMLOKUR_K_GEP = 42,
+    ZIMLOKUR_K_PHI = 43,
+    ZIMLOKUR_K_CALL = 44,
+    ZIMLOKUR_K_FREEZE = 45,
+    ZIMLOKUR_K_ATOMIC_LOAD = 46,
+    ZIMLOKUR_K_ATOMIC_STORE = 47,
+    ZIMLOKUR_K_ATOMIC_RMW = 48,
+    ZIMLOKUR_K_CMPXCHG = 49,
+    ZIMLOKUR_K_EXTRACT_VALUE = 50,
+    ZIMLOKUR_K_FENCE = 51,
+    ZIMLOKUR_K_RET = 52,
+    ZIMLOKUR_K_BR = 53,
+    ZIMLOKUR_K_SWITCH = 54,
+    ZIMLOKUR_K_UNREACHABLE = 55,
+    ZIMLOKUR_K_HEAD = 60,
+    ZIMLOKUR_K_BLOCK = 61,
+    ZIMLOKUR_K_PARAM = 62,
+    ZIMLOKUR_K_NAME = 63
+};
+
+/* Details: the 8 bits below the kind, where they are no rank of an operator or predicate. A head has its linkage, plus ZIMLOKUR_D_VARARGS. */
+enum zimlokur_detail {
+    ZIMLOKUR_D_VARARGS = 128,
+    ZIMLOKUR_D_PACKED = 1,
+    ZIMLOKUR_D_DOTS = 1,
+    ZIMLOKUR_D_INBOUNDS = 1,
+    ZIMLOKUR_D_ALIGN = 1,
+    ZIMLOKUR_D_COUNT = 1,
+    ZIMLOKUR_D_ALLOCA_ALIGN = 2,
+    ZIMLOKUR_D_FUNCTION_TYPE = 1,
+    ZIMLOKUR_D_CONDITION = 3,
+    ZIMLOKUR_D_NAMED = 1,
+    ZIMLOKUR_D_VALUE = 1
+};
+
+/* Linkages, as a head's detail has them; an unwritten one is external. */
+enum zimlokur_linkage {
+    ZIMLOKUR_LINKAGE_PRIVATE = 0,
+    ZIMLOKUR_LINKAGE_INTERNAL = 1,
+    ZIMLOKUR_LINKAGE_AVAILABLE_EXTERNALLY = 2,
+    ZIMLOKUR_LINKAGE_LINKONCE = 3,
+    ZIMLOKUR_LINKAGE_WEAK = 4,
+    ZIMLOKUR_LINKAGE_COMMON = 5,
+    ZIMLOKUR_LINKAGE_APPENDING = 6,
+    ZIMLOKUR_LINKAGE_EXTERN_WEAK = 7,
+    ZIMLOKUR_LINKAGE_LINKONCE_ODR = 8,
+    ZIMLOKUR_LINKAGE_WEAK_ODR = 9,
+    ZIMLOKUR_LINKAGE_EXTERNAL = 10
+};
+
 /* The full reading of one function, from behind the word `define`.
  *
  * Returns 0 where it is accepted, else the number of the question that refuses.

@@ -1,4 +1,4 @@
--- The laws of the attributes. The digits behind `#`: r is the class of the byte at i.
+-- The laws of the attributes. The digits behind `#`: r is the class of the byte at i, which says whether the scan goes on.
 -- Assumes nothing.
 use mathlib.Core.Path.{_≡_, sym, ap, _∙_, subst}
 use mathlib.Core.Bool.{Bool, true, false}
@@ -13,7 +13,6 @@ use Rattle.program.specs.Prog.{Prog, Res, run, byteAt, scanLen}
 use Rattle.grammar.specs.Lexer.{isByte, byteAtIf}
 use Rattle.lexer.specs.Step.{looksP}
 use Rattle.lexer.specs.Reads.{Aim, Finds}
-use Rattle.lexer.specs.declared.Cursor.{Cursor}
 use Rattle.lexer.specs.declared.Parsed.{Parsed}
 use Rattle.grammar.specs.Attributes.{groupStep}
 use Rattle.lexer.proofs.Scan.{drop-next}

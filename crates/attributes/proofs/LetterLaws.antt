@@ -1,4 +1,5 @@
--- Where no attribute begins, by the first two bytes or by the word.
+-- Where no attribute begins, by the first two bytes or by the word: every attribute's word begins with two small letters, and no
+-- word of the small table is in a long one; antt computes both.
 -- Assumes nothing.
 use mathlib.Core.Path.{_≡_, refl, sym, ap, _∙_, subst}
 use mathlib.Core.Bool.{Bool, true, false, _&&_, not}
@@ -13,9 +14,7 @@ use Rattle.program.specs.Prog.{Prog, Res, run, leadWord}
 use Rattle.grammar.specs.Lexer.{sameWord, eatN, wordIf, rank, rankIf}
 use Rattle.lexer.specs.Step.{wordP, rankP}
 use Rattle.lexer.specs.Reads.{Aim, Finds}
-use Rattle.lexer.specs.declared.Cursor.{Cursor}
 use Rattle.lexer.specs.declared.Parsed.{Parsed}
-use Rattle.lexer.specs.declared.Parsed.the-variants.{Ok, Refused}
 use Rattle.attributes.specs.Step.{isSmall, letters, lettersP}
 
 -- ---- what stands at the cursor is in no table of words that begin with two letters

@@ -6,11 +6,10 @@ use mathlib.Core.List.{List, [], _∷_}
 use Prim.Native.Nat.{ℕ, suc}
 use lib.Dec.{leb}
 use lib.ListN.{drop}
-use Rattle.program.specs.Bytes.{bytes}
+use Rattle.program.specs.Bytes.{bytes, byte}
 use Rattle.program.specs.Prog.{Prog, ret, scan}
 use Rattle.grammar.specs.Attributes.{groupStep, skipAttrsIn}
 use Rattle.lexer.specs.Reads.{Gives, Comes}
-use Rattle.lexer.specs.declared.Cursor.{Cursor}
 use Rattle.lexer.specs.declared.Parsed.{Parsed}
 use Rattle.lexer.specs.declared.Parsed.the-variants.{Ok, Refused}
 
@@ -25,7 +24,7 @@ pub record AttrStep (text : List ℕ) (p p′ : Parsed) (more : Bool) : Type 0 w
 
 -- a small letter
 unfoldable pub isSmall : ℕ → Bool
-isSmall x = leb 97 x && leb x 122
+isSmall x = leb (byte "a") x && leb x (byte "z")
 
 -- two of them stand there
 unfoldable pub letters : List ℕ → Bool

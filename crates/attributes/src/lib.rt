@@ -3,16 +3,21 @@
 use lexer::Cursor;
 use lexer::Parsed;
 use lexer::Ranked;
+use lexer::limits;
 ghost use mathlib.Core.Path.{_≡_};
 ghost use Prim.Native.Nat.{_+_};
 ghost use lib.ListN.{drop};
 ghost use Rattle.program.specs.Prog.{scanLen};
-ghost use Rattle.grammar.specs.Lexer.{skipAll, turns};
+ghost use Rattle.grammar.specs.Lexer.{skipAll};
+ghost use Rattle.records.specs.Limits.{turns};
 ghost use Rattle.grammar.specs.Attributes.{parenAttrs, flagAttrs, linkages, callingConventions, convFlags, skipArithFlags, skipFastMathFlags, parseLinkage, skipCallCconv, groupStep, skipAttrs};
 ghost use Rattle.attributes.specs.Step.{groupDigits, AttrStep, letters, lettersP, noAttrs};
 ghost use Rattle.lexer.specs.Table.{Classes};
 ghost use Rattle.lexer.specs.Step.{rankP, rankedP};
 ghost use Rattle.lexer.specs.Reads.{Gives};
+
+// The rank of a linkage that is not written.
+const UNWRITTEN: usize = records::NO_LINKAGE as usize;
 
 // An attribute with parentheses behind it (`PAREN_ATTRS`).
 fn paren_attr(classes: &[u8; 256], text: &[u8], p: Parsed) -> Ranked
@@ -213,7 +218,10 @@ pub fn parse_linkage(classes: &[u8; 256], text: &[u8], p: Parsed) -> Ranked
     if r < 11 {
         return Ranked { p: q1, r };
     }
-    Ranked { p: q1, r: 10 }
+    Ranked {
+        p: q1,
+        r: UNWRITTEN,
+    }
 }
 
 // A calling convention, where one stands (`skip_call_cconv`).
@@ -228,9 +236,9 @@ pub fn skip_call_cconv(classes: &[u8; 256], text: &[u8], p: Parsed) -> Parsed
         return q1;
     }
     if lexer::word(classes, text, q1, b"cc") {
-        let q2 = lexer::pass(text, q1, 2);
+        let q2 = lexer::pass_word(text, q1, b"cc");
         let q3 = lexer::eat_ws(classes, text, q2);
-        let n = lexer::parse_int(classes, text, q3, 0, 18446744073709551615);
+        let n = lexer::parse_int(classes, text, q3, 0, records::NUMBER_LIMIT);
         return n.p;
     }
     q1
@@ -243,7 +251,7 @@ fn group_end(classes: &[u8; 256], text: &[u8], at: usize) -> usize
 {
     let mut i = at;
     while i < text.len() {
-        if 10 <= lexer::class(classes, text[i]) {
+        if limits::DIGIT <= lexer::class(classes, text[i]) {
             return i;
         }
         i += 1;
@@ -284,16 +292,16 @@ fn letters_at(text: &[u8], at: usize) -> bool
     }
     let x = text[at];
     let y = text[at + 1];
-    if x < 97 {
+    if x < b'a' {
         return false;
     }
-    if 122 < x {
+    if b'z' < x {
         return false;
     }
-    if y < 97 {
+    if y < b'a' {
         return false;
     }
-    if 122 < y {
+    if b'z' < y {
         return false;
     }
     true
@@ -319,20 +327,20 @@ fn attr_step(classes: &[u8; 256], text: &[u8], p: Parsed) -> Passed
     ensures { λ r. ⌜ AttrStep (now (text .entry)) p (r .p) (r .more) ⌝ }
 {
     let q = lexer::eat_ws(classes, text, p);
-    if lexer::looks(text, q, 35) {
+    if lexer::looks(text, q, b'#') {
         let q1 = lexer::pass(text, q, 1);
         let q2 = skip_group(classes, text, q1);
         return Passed { p: q2, more: true };
     }
-    if lexer::looks(text, q, 34) {
-        let q1 = lexer::refuse(q, 18);
+    if lexer::looks(text, q, b'"') {
+        let q1 = lexer::refuse(q, records::Q_LEFT_OUT);
         return Passed { p: q1, more: false };
     }
     if !two_letters(text, q) {
         return Passed { p: q, more: false };
     }
     if lexer::word(classes, text, q, b"noundef") {
-        let q1 = lexer::pass(text, q, 7);
+        let q1 = lexer::pass_word(text, q, b"noundef");
         return Passed { p: q1, more: true };
     }
     let n = no_attr(classes, text, q);
@@ -343,13 +351,13 @@ fn attr_step(classes: &[u8; 256], text: &[u8], p: Parsed) -> Passed
     let q1 = k.p;
     let r = k.r;
     if r < 19 {
-        let q2 = lexer::skip_parens(classes, text, q1);
+        let q2 = names::skip_parens(classes, text, q1);
         return Passed { p: q2, more: true };
     }
     if lexer::word(classes, text, q1, b"align") {
-        let q2 = lexer::pass(text, q1, 5);
+        let q2 = lexer::pass_word(text, q1, b"align");
         let q3 = lexer::eat_ws(classes, text, q2);
-        let n = lexer::parse_int(classes, text, q3, 0, 18446744073709551615);
+        let n = lexer::parse_int(classes, text, q3, 0, records::NUMBER_LIMIT);
         let q4 = n.p;
         return Passed { p: q4, more: true };
     }
@@ -368,7 +376,7 @@ pub fn skip_attrs(classes: &[u8; 256], text: &[u8], p: Parsed) -> Parsed
     ensures { λ r. ⌜ Gives skipAttrs tt (now (text .entry)) p r ⌝ }
 {
     let mut q = p;
-    let mut left: usize = 16777217;
+    let mut left: usize = records::TURNS;
     while 0 < left {
         let s = attr_step(classes, text, q);
         q = s.p;

@@ -1,7 +1,7 @@
--- The laws of a body and of a piece.
+-- The laws of a body and of a piece: a statement's kind says which way the body goes on, and each way is one step of `parseBody`.
 -- Assumes nothing.
 use mathlib.Core.Path.{_≡_, refl, sym, ap, _∙_, subst}
-use mathlib.Core.Bool.{Bool, true, false, not}
+use mathlib.Core.Bool.{Bool, true, false}
 use mathlib.Core.List.{List, [], _∷_, _++_, append-nil}
 use Prim.Native.Nat.{ℕ, _+_, _-_, _≤_, _<_}
 use native.Mathlib.Omega.{arith}
@@ -12,20 +12,22 @@ use borrow.Author.Tests.{eqb-true, lt-ltb, le-ltb}
 use Rattle.program.specs.Class.{classOf, isWord}
 use Rattle.program.specs.Prog.{Prog, ret, fail, last, Res, ok, closed, no-at, run, _>>=_, byteAt}
 use Rattle.records.specs.Words.{node}
-use Rattle.grammar.specs.Kinds.{kBlock}
+use Rattle.records.specs.Kinds.{kBlock}
 use Rattle.records.specs.Piece.{blockOf, blockRead}
 use Rattle.grammar.specs.Lexer.{eatWs, refuse, isByte}
 use Rattle.grammar.specs.Body.{Statement, label, instruction, terminator, parseStatement, overAt, finishBlock, parseBody, parseBlock}
-use Rattle.grammar.specs.Again.{blockAt}
-use Rattle.lexer.specs.Step.{looksP, passed, refused, placeP, pushed, pushes}
+use Rattle.grammar.specs.Function.{blockAt}
+use Rattle.lexer.specs.Step.{looksP, passed, refused, placeP}
+use Rattle.writer.specs.Writes.{pushed, pushes}
 use Rattle.lexer.specs.Reads.{Stands, Budget, At, Ends, at, out, Leads, Goal, made, reach, Reached, there, gone as is-gone, same, Gives}
 use Rattle.lexer.specs.declared.Cursor.{Cursor}
 use Rattle.lexer.specs.declared.Parsed.{Parsed}
 use Rattle.lexer.specs.declared.Parsed.the-variants.{Ok, Refused}
-use Rattle.lexer.proofs.Laws.{after, bind-at, true-false, at-less, at-part, at-whole, val, place-then, place-at, push-then, fail-is, stay, more, no-more, some-byte, pass-in}
-use Rattle.clauses.proofs.OpcodeLaws.{turn}
-use Rattle.instructions.specs.Rich.{Rich, richly}
-use Rattle.instructions.proofs.RichLaws.{enrich}
+use Rattle.lexer.proofs.Laws.{after, bind-at, true-false, at-less, at-part, at-whole, val, place-then, place-at, fail-is, stay, more, no-more, some-byte, pass-in}
+use Rattle.writer.proofs.Laws.{push-then}
+use Rattle.statements.proofs.OpcodeLaws.{turn}
+use Rattle.operands.specs.Rich.{Rich, richly}
+use Rattle.operands.proofs.RichLaws.{enrich}
 use Rattle.directory.specs.Piece.{BlockIs, is-block, is-tail, no-block, Holds}
 use Rattle.directory.specs.declared.pieces.Piece.{Piece}
 use Rattle.statements.specs.Stated.{Which, a-label, an-instruction, a-terminator, StatementEnds, stated-at, no-statement, stated}

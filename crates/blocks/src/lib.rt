@@ -6,14 +6,17 @@ ghost use mathlib.Core.Path.{_≡_};
 ghost use mathlib.Core.List.{List, [], _∷_, _++_};
 ghost use Prim.Native.Nat.{ℕ, _≤_};
 ghost use lib.ListN.{length};
-ghost use Rattle.grammar.specs.Lexer.{turns};
+ghost use Rattle.records.specs.Limits.{turns};
 ghost use Rattle.grammar.specs.Body.{overAt, finishBlock, parseBody};
-ghost use Rattle.grammar.specs.Again.{blockAt};
+ghost use Rattle.grammar.specs.Function.{blockAt};
 ghost use Rattle.lexer.specs.Table.{Classes};
 ghost use Rattle.lexer.specs.Reads.{Leads, made, same};
-ghost use Rattle.instructions.specs.Rich.{richly};
+ghost use Rattle.operands.specs.Rich.{richly};
 ghost use Rattle.directory.specs.Piece.{BlockIs};
 ghost use Rattle.blocks.specs.Bodied.{bodied, asBlock, asTail};
+
+// Question 19, for a count that goes past it.
+const CHILDREN: usize = records::CHILD_LIMIT as usize;
 
 // Where the reader is behind a body: is it the tail; else the last label, how many instructions, the place behind the 65,536th.
 pub struct Body {
@@ -28,7 +31,7 @@ pub struct Body {
 fn over_at(n: usize, over: usize, at: usize) -> usize
     ensures { λ r. ⌜ r ≡ overAt n over at ⌝ }
 {
-    if n == 65535 { at } else { over }
+    if n == CHILDREN { at } else { over }
 }
 
 // Statements through a terminator or `}`.
@@ -40,10 +43,10 @@ fn parse_body(classes: &[u8; 256], text: &[u8], words: &mut [u64], p: Parsed) ->
     let mut label: u64 = 0;
     let mut n: usize = 0;
     let mut over: usize = 0;
-    let mut left: usize = 16777217;
+    let mut left: usize = records::TURNS;
     while 0 < left {
         let q1 = lexer::eat_ws(classes, text, q);
-        if lexer::looks(text, q1, 125) {
+        if lexer::looks(text, q1, b'}') {
             let q2 = lexer::pass(text, q1, 1);
             return Body {
                 p: q2,
@@ -79,7 +82,7 @@ fn parse_body(classes: &[u8; 256], text: &[u8], words: &mut [u64], p: Parsed) ->
             }
         }
     }
-    let q1 = lexer::refuse(q, 8);
+    let q1 = lexer::refuse(q, records::Q_STATEMENT);
     Body {
         p: q1,
         tail: false,
@@ -100,15 +103,15 @@ fn finish_block(
 ) -> Parsed
     ensures { λ r. ⌜ ((text acc term : List ℕ) → Leads (finishBlock label n over acc term) 0 (0 ∷ (0 ∷ (acc ++ term))) (made same text p0) text p0 p (now (words .entry)) r (now (words .exit))) ⌝ }
 {
-    if n < 65535 {
-        let p1 = lexer::patch(words, p0, p, 1, label);
+    if n < CHILDREN {
+        let p1 = writer::patch(words, p0, p, 1, label);
         let m = (n + 1) as u16;
-        return lexer::close(words, p0, p1, 61, 0, m);
+        return writer::close(words, p0, p1, records::K_BLOCK, 0, m);
     }
-    if 65535 < n {
-        return lexer::refuse_at(p, 19, over);
+    if CHILDREN < n {
+        return lexer::refuse_at(p, records::Q_CHILDREN, over);
     }
-    lexer::refuse(p, 19)
+    lexer::refuse(p, records::Q_CHILDREN)
 }
 
 // The answer of a reader, as a block.
@@ -138,8 +141,8 @@ pub fn parse_block(classes: &[u8; 256], text: &[u8], words: &mut [u64]) -> Piece
     ensures { λ r. ⌜ BlockIs (blockAt (now (text .entry))) r (now (words .exit)) × (length (now (words .exit)) ≡ length (now (words .entry))) ⌝ }
 {
     let p = Parsed::Ok(Cursor { at: 0, w: 0 });
-    let p1 = lexer::push(words, p, 0);
-    let p2 = lexer::push(words, p1, 0);
+    let p1 = writer::push(words, p, 0);
+    let p2 = writer::push(words, p1, 0);
     let b = parse_body(classes, text, words, p2);
     let q = b.p;
     if b.tail {

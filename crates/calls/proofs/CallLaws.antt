@@ -4,166 +4,64 @@ use mathlib.Core.Path.{_≡_, refl, sym, ap, _∙_, subst}
 use mathlib.Core.Bool.{Bool, true, false}
 use mathlib.Core.List.{List, [], _∷_, _++_}
 use mathlib.Core.Option.{Option, none as nothing, some}
-use Prim.Native.Nat.{ℕ, zero, suc, _+_, _-_, _*_, _≤_, _<_}
+use Prim.Native.Nat.{ℕ, _+_, _-_, _<_}
 use native.Mathlib.Omega.{arith}
 use lib.Dec.{eqb}
-use lib.ListN.{length, take, drop}
+use lib.ListN.{drop}
 use lib.Seq.{drop-drop}
 use Rattle.program.specs.Choice.{pick}
 use Rattle.program.specs.Class.{isSpace}
-use Rattle.program.specs.Prog.{Prog, ret, fail, look, eat, here, lead, scan, Res, ok, closed, no-at, run, byteAt, scanLen, next, run-bind, _>>=_}
-use Rattle.records.specs.Words.{node}
-use Rattle.grammar.specs.Lexer.{spaceStep, eatWs, refuse, isByte, byteIf, byteAtIf, tokenIf, expectToken, threeDots, dotsIf}
+use Rattle.program.specs.Prog.{Prog, ret, scan, Res, ok, closed, no-at, run, byteAt, scanLen, _>>=_}
+use Rattle.records.specs.Limits.{depthLimit, listDepth}
+use Rattle.grammar.specs.Lexer.{spaceStep, eatWs, refuse, isByte, tokenIf}
 use Rattle.grammar.specs.Attributes.{skipAttrs}
-use Rattle.grammar.specs.Types.{Listed, listed, countOf, dotsOf, wordsOf, TypeOut, plain, opened, whole, noType, typeItems, parseTypeList, parseType}
-use Rattle.grammar.specs.Values.{overType, valueWith, parseValue}
-use Rattle.grammar.specs.Instructions.{overArg, argItems, parseArgList, funcNode, callRest, callOf}
-use Rattle.lexer.specs.Step.{looksP, passed, refused, closes}
-use Rattle.lexer.specs.Reads.{Budget, At, Ends, at, out, Leads, Goal, made, reach, same, Gives}
-use Rattle.lexer.specs.declared.Cursor.{Cursor}
+use Rattle.grammar.specs.Types.{Listed, listed, plain, opened, room, child, commaOr, dotsList, noType, parseTypeList, parseType}
+use Rattle.grammar.specs.Values.{valueWith, parseValue}
+use Rattle.grammar.specs.Instructions.{argItem, funcNode, callRest, callOf}
+use Rattle.lexer.specs.Step.{looksP, countedP}
+use Rattle.writer.specs.Writes.{closes}
+use Rattle.lexer.specs.Reads.{Leads, Goal, made, reach, same, Gives, Comes, Counts}
 use Rattle.lexer.specs.declared.Parsed.{Parsed}
-use Rattle.lexer.specs.declared.Parsed.the-variants.{Ok, Refused}
-use Rattle.lexer.proofs.Laws.{after, bind-at, scan-run, no-ok, true-false, at-less, at-part, at-whole, run-eat, byte-run, some-byte, done, stay, then, val, byte-yes, byte-no, dots-yes, dots-no, fail-is, more, no-more, close-is}
-use Rattle.types.specs.Reading.{typed, spaced, Listing, listOf, Types}
-use Rattle.types.proofs.TypeLaws.{Stuck, type-then, space-run, attrs-run, stuck-out}
+use Rattle.lexer.proofs.Laws.{after, bind-at, scan-run, run-eat, byte-run, some-byte, done, then, val}
+use Rattle.writer.proofs.Laws.{close-is}
+use Rattle.lexer.proofs.Children.{assoc, child-is, counted-hands, if-there}
+use Rattle.types.specs.Reading.{spaced, Listing, listOf, Types}
+use Rattle.types.proofs.TypeLaws.{Stuck, space-run, attrs-run, type-child, comma-again, comma-stop, dots-turn}
 use Rattle.values.proofs.ValueLaws.{stuck-value}
-use Rattle.orders.specs.Found.{There, Found}
-use Rattle.orders.proofs.Twice.{found-not}
 
 -- ---- arguments
--- a type, attributes, a value
-stuck-arg : {B : Type 0} (h : List ℕ → List ℕ → Prog B) → Stuck 6 (λ t. skipAttrs >>= λ _. parseValue 64 >>= h t)
-stuck-arg h t i s e = attrs-run (λ _. parseValue 64 >>= h t) i s e ∙ stuck-value 63 h t i s e
+-- behind a type: attributes, a value
+stuck-arg : {B : Type 0} (n : ℕ) (h : List ℕ → List ℕ → Prog B) → Stuck 6 (λ t. skipAttrs >>= λ _. child n (parseValue depthLimit) >>= h t)
+unfolding child
+stuck-arg n h t i s e = attrs-run (λ _. child n (parseValue depthLimit) >>= h t) i s e ∙ assoc (parseValue depthLimit) (room n) (h t) i s ∙ stuck-value listDepth (λ t v. room n v >>= h t) t i s e
 
-module _ (u n : ℕ) (odd : Bool) (ws : List ℕ) {text : List ℕ} {p0 q q1 : Parsed} {v : List ℕ} (gw : Gives eatWs tt text q q1) where
-  pub args-dots : {z : Bool} {q2 q3 : Parsed} → z ≡ looksP text q1 46 → z ≡ true → Gives (threeDots 5) tt text q1 q2 → Gives (expectToken 41) tt text q2 q3 → Leads (argItems u odd n ws) 0 ws (made (listed n 0) text p0) text p0 q v q3 v
-  unfolding argItems
-  args-dots {z} {q2} {q3} l y d x = go u
-    where
-      go : (u : ℕ) → Leads (argItems u odd n ws) 0 ws (made (listed n 0) text p0) text p0 q v q3 v
-      go zero = val _ gw (dots-yes 5 _ l y d (val _ x done))
-      go (suc u) = val _ gw (dots-yes 5 _ l y d (val _ x done))
+pub arg-is : (n k : ℕ) {text : List ℕ} {p q1 q2 q3 q4 q5 : Parsed} {w w1 w2 : List ℕ} → Types depthLimit text p w q1 w1 → q2 ≡ countedP n q1 → (n < 65535 → k ≡ n + 1) → Gives skipAttrs tt text q2 q3 → Leads (parseValue depthLimit) 0 [] (made same text q3) text q3 q3 w1 q4 w2 → q5 ≡ countedP k q4 → Leads (argItem n) 0 [] (made same text p) text p p w q5 w2
+unfolding argItem
+arg-is n k {text} {p} {q1} {q2} {q3} {q4} {q5} {w} {w1} {w2} t x e ga v x2 = type-child n 6 _ t x (stuck-arg (n + 1) (λ t v. ret (t ++ v))) (λ i j z. counted-hands k q4 x2 (v .hands i j (ga .hands i j z)))
+    (λ t lt. val _ ga (then _ (subst (λ (j : ℕ). Leads (child j (parseValue depthLimit)) 0 [] (made same text q3) text q3 q3 w1 q5 w2) (e lt) (child-is k x2 v)) (λ v. done)))
 
-  module _ {q2 : Parsed} {v1 : List ℕ} {z : Bool} (l : z ≡ looksP text q1 46) (y : z ≡ false) (r : Types 64 text q1 v q2 v1) where
-    pub args-odd : {E : Goal Listed} {q3 : Parsed} → u ≤ 0 → odd ≡ true → q3 ≡ refused 19 q2 → Leads (argItems u odd n ws) 0 ws E text p0 q v q3 v1
-    unfolding argItems overArg overType
-    args-odd {E} {q3} h o x = no-more (λ z. argItems z odd n ws) u h (subst (λ (b : Bool). Leads (argItems 0 b n ws) 0 ws E text p0 q v q3 v1) (sym o) (val _ gw (dots-no 5 _ l y (type-then 19 _ r stuck-out (λ t. fail-is _ x)))))
+abbrev pub argsOf : ℕ → ℕ → List ℕ → Prog Listed
+argsOf u n ws = dotsList u 2 0 5 argItem n ws
 
-    module _ {q3 q4 : Parsed} {v2 : List ℕ} (ga : Gives skipAttrs tt text q2 q3) (rv : Leads (parseValue 64) 0 [] (made same text q3) text q3 q3 v1 q4 v2) where
-      pub args-even : {E : Goal Listed} {q5 : Parsed} → u ≤ 0 → odd ≡ false → q5 ≡ refused 19 q4 → Leads (argItems u odd n ws) 0 ws E text p0 q v q5 v2
-      unfolding argItems overArg
-      args-even {E} {q5} h o x = no-more (λ z. argItems z odd n ws) u h (subst (λ (b : Bool). Leads (argItems 0 b n ws) 0 ws E text p0 q v q5 v2) (sym o) (val _ gw (dots-no 5 _ l y (type-then 6 _ r (stuck-arg (λ t v. refuse 19)) (λ t. val _ ga (then _ rv (λ x2. fail-is _ x)))))))
+module _ {text : List ℕ} {p0 q q1 q2 q3 : Parsed} {v v1 : List ℕ} (u n m : ℕ) (pos : 0 < u) (gw : Gives eatWs tt text q q1) {z : Bool} (l : z ≡ looksP text q1 46) (y : z ≡ false) (r : Leads (argItem n) 0 [] (made same text q1) text q1 q1 v q2 v1 × Counts q2 m (n + 2)) (ws : List ℕ) {b : Bool} (cm : (x y : Prog Listed) → Comes (commaOr 41 x y) (pick b x y) text q2 q3) where
+  pub args-more : b ≡ true → Leads (argsOf u n ws) 0 ws (reach (argsOf (u - 1) m) text p0) text p0 q v q3 v1
+  args-more o = dots-turn u 2 0 5 n argItem ws pos gw l y (then _ (r .0) (λ t. if-there (cm (refuse 3) (refuse 3) .hands) (λ cur i. comma-again 41 cm _ m (r .1 cur i) (ws ++ t) (argsOf (u - 1)) _ o)))
 
-      module _ {q5 : Parsed} (pos : 0 < u) (gv : Gives eatWs tt text q4 q5) where
-        turn : {E : Goal Listed} {q6 : Parsed} {v6 : List ℕ} → ((t x : List ℕ) → Leads (byteIf 44 (argItems (u - 1) odd (n + 2) ((ws ++ t) ++ x)) (byteIf 41 (ret (listed (n + 2) 0 ((ws ++ t) ++ x))) (refuse 3))) 0 ((ws ++ t) ++ x) E text p0 q5 v2 q6 v6) → Leads (argItems u odd n ws) 0 ws E text p0 q v q6 v6
-        unfolding argItems
-        turn {E} {q6} {v6} k = more (λ z. argItems z odd n ws) u pos (val _ gw (dots-no 5 _ l y (type-then 6 _ r (stuck-arg (λ t x. eatWs >>= λ _. byteIf 44 (argItems (u - 1) odd (n + 2) ((ws ++ t) ++ x)) (byteIf 41 (ret (listed (n + 2) 0 ((ws ++ t) ++ x))) (refuse 3)))) (λ t. val _ ga (then _ rv (λ x. val _ gv (k t x)))))))
+  pub args-end : b ≡ false → Leads (argsOf u n ws) 0 ws (made (listed m 0) text p0) text p0 q v q3 v1
+  args-end o = dots-turn u 2 0 5 n argItem ws pos gw l y (then _ (r .0) (λ t. if-there (cm (refuse 3) (refuse 3) .hands) (λ cur i. comma-stop 41 cm _ m (r .1 cur i) (ws ++ t) _ o)))
 
-        pub args-more : {b : Bool} {q6 : Parsed} (m : ℕ) → m ≡ n + 2 → b ≡ looksP text q5 44 → b ≡ true → q6 ≡ passed text 1 q5 → Leads (argItems u odd n ws) 0 ws (reach (argItems (u - 1) odd m) text p0) text p0 q v q6 v2
-        args-more {b} {q6} m e a c x = turn (λ t x2. byte-yes _ _ a c x (subst (λ (j : ℕ). Leads (argItems (u - 1) odd j ((ws ++ t) ++ x2)) 3 ((ws ++ t) ++ x2) (reach (argItems (u - 1) odd m) text p0) text p0 q6 v2 q6 v2) e (stay (argItems (u - 1) odd m))))
-
-        pub args-end : {b b2 : Bool} {q6 : Parsed} (m : ℕ) → m ≡ n + 2 → b ≡ looksP text q5 44 → b ≡ false → b2 ≡ looksP text q5 41 → b2 ≡ true → q6 ≡ passed text 1 q5 → Leads (argItems u odd n ws) 0 ws (made (listed m 0) text p0) text p0 q v q6 v2
-        args-end {b} {b2} {q6} m e a c a2 c2 x = turn (λ t x2. byte-no _ _ a c (byte-yes _ _ a2 c2 x (subst (λ (j : ℕ). Leads (ret (listed j 0 ((ws ++ t) ++ x2))) 3 ((ws ++ t) ++ x2) (made (listed m 0) text p0) text p0 q6 v2 q6 v2) e done)))
-
-        pub args-bad : {E : Goal Listed} {b b2 : Bool} {q6 : Parsed} → b ≡ looksP text q5 44 → b ≡ false → b2 ≡ looksP text q5 41 → b2 ≡ false → q6 ≡ refused 3 q5 → Leads (argItems u odd n ws) 0 ws E text p0 q v q6 v2
-        args-bad a c a2 c2 x = turn (λ t x2. byte-no _ _ a c (byte-no _ _ a2 c2 (fail-is _ x)))
-
--- ---- what a program may give
-pub record Yields {A : Type 0} (P : A → Type 0) (f : Prog A) : Type 0 where
-  pub of : (i j : ℕ) (s : List ℕ) (a : A) → run f i s ≡ ok a j → P a
-
+-- a result is one thing
 no-ok-at : {A B : Type 0} (a : A) (j q p : ℕ) → no-at q p ≡ ok a j → B
 no-ok-at a j q p e = absurd (let z : _≡_ {A = ℕ} 0 1 = cc in omega arith)
 
 no-closed : {A B : Type 0} (a : A) (j : ℕ) (ws : List ℕ) (p : ℕ) → closed ws p ≡ ok a j → B
 no-closed a j ws p e = absurd (let z : _≡_ {A = ℕ} 0 1 = cc in omega arith)
 
-ok-value : {A : Type 0} (a b : A) (i j : ℕ) → ok a i ≡ ok b j → a ≡ b
-ok-value a b i j e = cc
-
-yields-ret : {A : Type 0} {P : A → Type 0} (a : A) → P a → Yields P (ret a)
-unfolding run
-yields-ret {A} {P} a h = record { of = λ i j s b e. subst P (ok-value a b i j e) h }
-
-yields-fail : {A : Type 0} {P : A → Type 0} (q : ℕ) → Yields {A = A} P (refuse q)
-unfolding run refuse
-yields-fail q = record { of = λ i j s b e. no-ok-at b j q i e }
-
-yields-then : {A B : Type 0} {P : B → Type 0} (f : Prog A) (h : A → Prog B) → ((a : A) → Yields P (h a)) → Yields P (f >>= h)
-unfolding next
-yields-then {A} {B} {P} f h k = record { of = λ i j s b e. go i j s b (run f i s) (sym (run-bind f h i s) ∙ e) }
-  where
-    go : (i j : ℕ) (s : List ℕ) (b : B) (r : Res A) → next h i s r ≡ ok b j → P b
-    go i j s b (ok a m) e = k a .of m j (drop (m - i) s) b e
-    go i j s b (closed ws m) e = no-closed b j ws m e
-    go i j s b (no-at q p) e = no-ok-at b j q p e
-
-yields-eat : {A : Type 0} {P : A → Type 0} (f : Prog A) → Yields P f → Yields P (eat f)
-unfolding run
-yields-eat {A} {P} f k = record { of = λ i j s b e. go i j s b e }
-  where
-    go : (i j : ℕ) (s : List ℕ) (b : A) → run (eat f) i s ≡ ok b j → P b
-    go i j [] b e = no-ok-at b j 0 i e
-    go i j (x ∷ s) b e = k .of (suc i) j s b e
-
-yields-byte : {A : Type 0} {P : A → Type 0} (b : ℕ) (f g : Prog A) → Yields P f → Yields P g → Yields P (byteIf b f g)
-unfolding run byteIf
-yields-byte {A} {P} b f g x y = record { of = λ i j s a e. go i j s a (isByte b (byteAt s)) e }
-  where
-    go : (i j : ℕ) (s : List ℕ) (a : A) (z : Bool) → run (elim z [ true ↦ eat f | false ↦ g ]) i s ≡ ok a j → P a
-    go i j s a true e = yields-eat f x .of i j s a e
-    go i j s a false e = y .of i j s a e
-
-yields-dots : {A : Type 0} {P : A → Type 0} (q : ℕ) (f g : Prog A) → Yields P f → Yields P g → Yields P (dotsIf q f g)
-unfolding run dotsIf byteAtIf
-yields-dots {A} {P} q f g x y = record { of = λ i j s a e. go i j s a (isByte 46 (byteAt s)) e }
-  where
-    go : (i j : ℕ) (s : List ℕ) (a : A) (z : Bool) → run (elim z [ true ↦ (threeDots q >>= λ _. f) | false ↦ g ]) i s ≡ ok a j → P a
-    go i j s a true e = yields-then (threeDots q) (λ _. f) (λ _. x) .of i j s a e
-    go i j s a false e = y .of i j s a e
-
--- a list of types has 65,534 at most
-abbrev UpTo : ℕ → Listed → Type 0
-UpTo m l = countOf l ≤ m
-
-items-count : (u bad : ℕ) (elem : Prog TypeOut) (n m : ℕ) (acc : List ℕ) → n + u ≤ m → Yields (UpTo m) (typeItems u bad elem n acc)
-unfolding typeItems
-items-count zero bad elem n m acc h =
-    yields-then eatWs _ (λ _. yields-dots bad _ _ (yields-then (expectToken 41) _ (λ _. yields-ret (listed n 1 acc) (omega arith))) (yields-then (whole 19 elem) _ (λ _. yields-fail 19)))
-items-count (suc u) bad elem n m acc h =
-    yields-then eatWs _ (λ _. yields-dots bad _ _ (yields-then (expectToken 41) _ (λ _. yields-ret (listed n 1 acc) (omega arith)))
-    (yields-then (whole 3 elem) _ (λ t. yields-then skipAttrs _ (λ _. yields-then eatWs _ (λ _.
-    yields-byte 44 _ _ (items-count u bad elem (n + 1) m (acc ++ t) (omega arith)) (yields-byte 41 _ _ (yields-ret (listed (n + 1) 0 (acc ++ t)) (omega arith)) (yields-fail 3)))))))
-
-pub list-count : (bad : ℕ) (elem : Prog TypeOut) → Yields (UpTo 65534) (parseTypeList bad elem)
-unfolding parseTypeList
-list-count bad elem = yields-then eatWs _ (λ _. yields-byte 41 _ _ (yields-ret (listed 0 0 []) (omega arith)) (items-count 65534 bad elem 0 65534 [] (omega arith)))
-
--- ---- a part that writes, of which the rest knows what it gave
-pub then-found : {A B : Type 0} {f : Prog A} (h : A → Prog B) {mk : List ℕ → A} {c : ℕ} {mid : List ℕ} {E : Goal B} {text : List ℕ} {p0 p p1 p′ : Parsed} {w w1 w′ : List ℕ}
-    → Leads f 0 [] (made mk text p) text p p w p1 w1 → ((ws : List ℕ) → Found f text p p1 (mk ws) → Leads (h (mk ws)) c (mid ++ ws) E text p0 p1 w1 p′ w′) → Leads (f >>= h) c mid E text p0 p w p′ w′
-unfolding after
-then-found {A} {B} {f} h {mk} {c} {mid} {E} {text} {p0} {p} {p1} {p′} {w} {w1} {w′} r s = record {
-  runs = λ b low k cur e a. subst (λ (z : Res B). E .ends b k low z p′ w′) (sym (bind-at f h text (cur .at))) (go b low k cur e a (run f (cur .at) (drop (cur .at) text)) refl refl (r .runs b (low ++ mid) (c + k) cur e (at-less (0 + (c + k)) (omega arith) (at-part e a))));
-  hands = λ e x i. let o : p1 ≡ Refused e x = r .hands e x i in s [] (found-not e x o) .hands e x o;
-}
-  where
-    go : (b : Budget) (low : List ℕ) (k : ℕ) (cur : Cursor) → p ≡ Ok cur → At b text p0 (c + k) low mid cur w → (z : Res A) → run f (cur .at) (drop (cur .at) text) ≡ z → {y : Parsed} → p1 ≡ y → Ends b text p (c + k) (low ++ mid) mk z y w1 → E .ends b k low (after h text z) p′ w′
-    go b low k cur e a z i o (at {ws = ws} {cur = ct} t) = s ws (record { there = λ d u. record { cur = cur; was = e; inside = a .inside; end = ct .at; is = i } }) .runs b low k ct o (at-whole a t)
-    go b low k cur e a z i o (out {e = en} {q = x}) = rw (s [] (found-not en x o) .hands en x o) (E .outs b k low en x w′)
-
--- what need be shown only where the reader has come to
-pub if-there : {A : Type 0} {f : Prog A} {c : ℕ} {mid : List ℕ} {E : Goal A} {text : List ℕ} {p0 p p′ : Parsed} {w w′ : List ℕ} → ((e x : ℕ) → p ≡ Refused e x → p′ ≡ Refused e x) → ((cur : Cursor) → p ≡ Ok cur → Leads f c mid E text p0 p w p′ w′) → Leads f c mid E text p0 p w p′ w′
-if-there h k = record { runs = λ b low m cur e a. k cur e .runs b low m cur e a; hands = h }
-
--- a function type's node, whose count is one more than the list's
-pub func-close : (t ws : List ℕ) (m n dots : ℕ) {c : ℕ} {text : List ℕ} {p0 s p q : Parsed} {w w′ : List ℕ} → Found (parseTypeList 5 (parseType 63)) text s p (listed m dots ws) → (m < 65535 → n ≡ m + 1) → (q ≡ p) × (w′ ≡ closes 11 dots n p0 p w)
-    → Leads (ret (funcNode t (listed m dots ws))) c (0 ∷ (t ++ ws)) (made same text p0) text p0 p w q w′
+-- ---- a function type
+-- a function type's node
+pub func-close : (t ws : List ℕ) (n dots : ℕ) {c : ℕ} {text : List ℕ} {p0 p q : Parsed} {w w′ : List ℕ} → (q ≡ p) × (w′ ≡ closes 11 dots n p0 p w) → Leads (ret (funcNode t (listed n dots ws))) c (0 ∷ (t ++ ws)) (made same text p0) text p0 p w q w′
 unfolding funcNode
-func-close t ws m n dots {c} {text} {p0} {s} {p} {q} {w} {w′} F e h = if-there (λ en x i. h .0 ∙ i) (λ cur o.
-    let i : m ≤ 65534 = list-count 5 (parseType 63) .of (F .there cur o .cur .at) (F .there cur o .end) (drop (F .there cur o .cur .at) text) (listed m dots ws) (F .there cur o .is) in
-    let v : m + 1 ≡ n = sym (e (omega arith)) in
-    subst (λ (k : ℕ). Leads (ret (node 11 dots k (t ++ ws))) c (0 ∷ (t ++ ws)) (made same text p0) text p0 p w q w′) (sym v) (close-is 11 dots n (t ++ ws) h))
+func-close t ws n dots h = close-is 11 dots n (t ++ ws) h
 
 -- a result that is made further, then the rest
 pub made-then : {A B C : Type 0} (f : Prog A) (g : A → B) (h : B → Prog C) {c : ℕ} {mid : List ℕ} {E : Goal C} {text : List ℕ} {p0 p p′ : Parsed} {w w′ : List ℕ} → Leads ((f >>= λ a. ret (g a)) >>= h) c mid E text p0 p w p′ w′ → Leads (f >>= λ a. h (g a)) c mid E text p0 p w p′ w′
@@ -214,11 +112,11 @@ space-twice k text i =
     let e : i + n + scanLen spaceStep 0 (drop (i + n) text) ≡ i + n = omega arith in
     scan-run spaceStep 0 (λ w. k) text (i + n) ∙ ap (λ (m : ℕ). run k m (drop m text)) e ∙ sym (scan-run spaceStep 0 (λ w. k) text i)
 
-value-space : {A : Type 0} (h : List ℕ → Prog A) (text : List ℕ) (i : ℕ) → run (parseValue 64 >>= h) (i + scanLen spaceStep 0 (drop i text)) (drop (i + scanLen spaceStep 0 (drop i text)) text) ≡ run (parseValue 64 >>= h) i (drop i text)
+value-space : {A : Type 0} (h : List ℕ → Prog A) (text : List ℕ) (i : ℕ) → run (parseValue depthLimit >>= h) (i + scanLen spaceStep 0 (drop i text)) (drop (i + scanLen spaceStep 0 (drop i text)) text) ≡ run (parseValue depthLimit >>= h) i (drop i text)
 unfolding parseValue valueWith eatWs _>>=_
 value-space h text i = space-twice _ text i
 
-rest-space : (dest : ℕ) (types text : List ℕ) (i : ℕ) → run (callRest dest 1 true 3 types) (i + scanLen spaceStep 0 (drop i text)) (drop (i + scanLen spaceStep 0 (drop i text)) text) ≡ run (callRest dest 1 true 3 types) i (drop i text)
+rest-space : (dest : ℕ) (types text : List ℕ) (i : ℕ) → run (callRest dest 1 3 types) (i + scanLen spaceStep 0 (drop i text)) (drop (i + scanLen spaceStep 0 (drop i text)) text) ≡ run (callRest dest 1 3 types) i (drop i text)
 unfolding callRest
 rest-space dest types text i = value-space _ text i
 
@@ -227,7 +125,7 @@ list-space : (text : List ℕ) (m : Listed) (i : ℕ) → run (eatWs >>= λ _. r
 unfolding eatWs run _>>=_
 list-space text m i = refl
 
-opened-list : (text : List ℕ) (j : ℕ) (l : Listed) (e : ℕ) → Listing (listOf 64) text j l e → run (parseTypeList 5 (parseType 63) >>= λ l. eatWs >>= λ _. ret l) (j + 1) (drop (j + 1) text) ≡ ok l e
+opened-list : (text : List ℕ) (j : ℕ) (l : Listed) (e : ℕ) → Listing (listOf depthLimit) text j l e → run (parseTypeList 5 (parseType listDepth) >>= λ l. eatWs >>= λ _. ret l) (j + 1) (drop (j + 1) text) ≡ ok l e
 unfolding listOf noType spaced
 opened-list text j l e L = L .runs
 
@@ -235,16 +133,16 @@ opened-byte : (text : List ℕ) (j : ℕ) → byteAt (drop j text) ≡ 40 → is
 unfolding isByte
 opened-byte text j b = rw b
 
-opened-here : (dest : ℕ) (text t : List ℕ) (j : ℕ) → byteAt (drop j text) ≡ 40 → run (callOf dest (plain t)) j (drop j text) ≡ run (parseTypeList 5 (parseType 63) >>= λ l. callRest dest 1 true 3 (t ++ funcNode t l)) (j + 1) (drop (j + 1) text)
+opened-here : (dest : ℕ) (text t : List ℕ) (j : ℕ) → byteAt (drop j text) ≡ 40 → run (callOf dest (plain t)) j (drop j text) ≡ run (parseTypeList 5 (parseType listDepth) >>= λ l. callRest dest 1 3 (t ++ funcNode t l)) (j + 1) (drop (j + 1) text)
 unfolding callOf tokenIf
 opened-here dest text t j b = space-run _ j (drop j text) b ∙ byte-run 40 _ _ text j true (opened-byte text j b) ∙ run-eat _ text j (some-byte 40 (drop j text) (opened-byte text j b))
 
-pub call-opened : (dest : ℕ) (text : List ℕ) (t : List ℕ) (l : Listed) (j e : ℕ) → byteAt (drop j text) ≡ 40 → Listing (listOf 64) text j l e → run (callOf dest (opened t l j)) e (drop e text) ≡ run (callOf dest (plain t)) j (drop j text)
+pub call-opened : (dest : ℕ) (text : List ℕ) (t : List ℕ) (l : Listed) (j e : ℕ) → byteAt (drop j text) ≡ 40 → Listing (listOf depthLimit) text j l e → run (callOf dest (opened t l j)) e (drop e text) ≡ run (callOf dest (plain t)) j (drop j text)
 unfolding after callOf
-call-opened dest text t l j e b L = sym (opened-here dest text t j b ∙ bind-at (parseTypeList 5 (parseType 63)) rest text (j + 1) ∙ go (run (parseTypeList 5 (parseType 63)) (j + 1) (drop (j + 1) text)) (sym (bind-at (parseTypeList 5 (parseType 63)) (λ l. eatWs >>= λ _. ret l) text (j + 1)) ∙ opened-list text j l e L))
+call-opened dest text t l j e b L = sym (opened-here dest text t j b ∙ bind-at (parseTypeList 5 (parseType listDepth)) rest text (j + 1) ∙ go (run (parseTypeList 5 (parseType listDepth)) (j + 1) (drop (j + 1) text)) (sym (bind-at (parseTypeList 5 (parseType listDepth)) (λ l. eatWs >>= λ _. ret l) text (j + 1)) ∙ opened-list text j l e L))
   where
     rest : Listed → Prog (List ℕ)
-    rest l = callRest dest 1 true 3 (t ++ funcNode t l)
+    rest l = callRest dest 1 3 (t ++ funcNode t l)
 
     value-same : (m : Listed) (k : ℕ) → ok m k ≡ ok l e → (m ≡ l) × (k ≡ e)
     value-same m k i = (cc, cc)

@@ -1,4 +1,4 @@
--- The laws of words that stand a second time.
+-- The laws of words that stand a second time: a copy behind them leaves them as they are, and past the array's end nothing is stored.
 -- Assumes nothing.
 use mathlib.Core.Path.{_≡_, refl, sym, ap, _∙_, subst}
 use mathlib.Core.Bool.{Bool, true, false}
@@ -14,14 +14,15 @@ use lib.Seq.{set-out, getD-set-other, getD-append-add, take-suc, take-length, le
 use borrow.Author.Tests.{ltb-true, ltb-false}
 use Rattle.program.specs.Choice.{pick}
 use Rattle.program.specs.Prog.{Prog, ret, ok, run}
-use Rattle.lexer.specs.Step.{bumped, pushed, pushes}
+use Rattle.lexer.specs.Step.{bumped}
+use Rattle.writer.specs.Writes.{pushed, pushes}
 use Rattle.lexer.specs.Reads.{Stands, Ends, at, Leads, Goal, made, same}
 use Rattle.lexer.specs.declared.Cursor.{Cursor}
 use Rattle.lexer.specs.declared.Parsed.{Parsed}
 use Rattle.lexer.specs.declared.Parsed.the-variants.{Ok, Refused}
-use Rattle.lexer.proofs.Words.{pushed as stands-more}
+use Rattle.writer.proofs.Words.{pushed as stands-more}
 use Rattle.lexer.proofs.Laws.{no-ok}
-use Rattle.orders.specs.Found.{There, Found}
+use Rattle.operands.specs.Found.{There, Found}
 use Rattle.calls.specs.Copy.{copied, Written, Held}
 
 -- ---- the array

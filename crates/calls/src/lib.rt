@@ -2,101 +2,77 @@
 use lexer::Cursor;
 use lexer::Parsed;
 use types::Listed;
+use values::Pair;
 ghost use mathlib.Core.Path.{_≡_};
 ghost use mathlib.Core.List.{List, [], _∷_};
 ghost use Prim.Native.Nat.{ℕ, _+_, _≤_, _<_};
 ghost use lib.ListN.{length};
 ghost use Rattle.program.specs.Prog.{ret};
 ghost use Rattle.grammar.specs.Types.{listed};
-ghost use Rattle.grammar.specs.Instructions.{parseArgList, callRest, parseCall, parseTailCall};
+ghost use Rattle.grammar.specs.Instructions.{argItem, parseArgList, callRest, parseCall, parseTailCall};
 ghost use Rattle.lexer.specs.Table.{Classes};
-ghost use Rattle.lexer.specs.Reads.{Leads, made, same};
-ghost use Rattle.instructions.specs.Rich.{richly};
+ghost use Rattle.lexer.specs.Reads.{Leads, Counts, made, same};
+ghost use Rattle.operands.specs.Rich.{richly};
 ghost use Rattle.calls.specs.Copy.{copied, Held};
 ghost use Rattle.calls.specs.Func.{funcType};
 
-// The arguments, behind the `(` (`parse_arg_list`); n children stand before them, of which `odd` says whether they are odd in number.
-fn parse_arg_list(
-    classes: &[u8; 256],
-    text: &[u8],
-    words: &mut [u64],
-    p: Parsed,
-    odd: bool,
-    n: u16,
-) -> Listed
+// An argument: a typed value with attributes behind its type, as the next children of a list, which has n so far.
+fn arg_item(classes: &[u8; 256], text: &[u8], words: &mut [u64], p: Parsed, n: u16) -> Pair
     requires { ⌜ Classes (now classes) ⌝ }
-    requires { ⌜ n ≤ 3 ⌝ }
-    ensures { λ r. ⌜ Leads (parseArgList odd n) 0 [] (made (listed (r .n) 0) (now (text .entry)) p) (now (text .entry)) p p (now (words .entry)) (r .p) (now (words .exit)) ⌝ }
+    ensures { λ r. ⌜ Leads (argItem n) 0 [] (made same (now (text .entry)) p) (now (text .entry)) p p (now (words .entry)) (r .p) (now (words .exit)) × Counts (r .p) (r .n) (n + 2) ⌝ }
+{
+    let q1 = types::parse_type(classes, text, words, p, records::DEPTH_LIMIT);
+    let q2 = lexer::count_child(q1, n);
+    let k = types::one_more(n);
+    let q3 = attributes::skip_attrs(classes, text, q2);
+    let q4 = values::parse_value(classes, text, words, q3, records::DEPTH_LIMIT);
+    let q5 = lexer::count_child(q4, k);
+    let m = types::one_more(k);
+    Pair { p: q5, n: m }
+}
+
+// The arguments, behind the `(` (`parse_arg_list`); n children stand before them.
+fn parse_arg_list(classes: &[u8; 256], text: &[u8], words: &mut [u64], p: Parsed, n: u16) -> Listed
+    requires { ⌜ Classes (now classes) ⌝ }
+    ensures { λ r. ⌜ Leads (parseArgList n) 0 [] (made (listed (r .n) 0) (now (text .entry)) p) (now (text .entry)) p p (now (words .entry)) (r .p) (now (words .exit)) ⌝ }
 {
     let mut q = lexer::eat_ws(classes, text, p);
-    if lexer::looks(text, q, 41) {
+    if lexer::looks(text, q, b')') {
         let q1 = lexer::pass(text, q, 1);
         return Listed { p: q1, n, dots: 0 };
     }
-    let mut left: u16 = 32766;
+    let mut left: usize = records::LIST_TURNS;
     let mut m: u16 = n;
     while 0 < left {
         let q1 = lexer::eat_ws(classes, text, q);
-        if lexer::looks(text, q1, 46) {
-            let q2 = lexer::three_dots(text, q1, 5);
-            let q3 = lexer::expect_token(classes, text, q2, 41);
+        if lexer::looks(text, q1, b'.') {
+            let q2 = names::three_dots(text, q1, records::Q_TYPE);
+            let q3 = lexer::expect_token(classes, text, q2, b')');
             return Listed {
                 p: q3,
                 n: m,
                 dots: 0,
             };
         }
-        let q2 = types::parse_type(classes, text, words, q1, 64);
-        let q3 = attributes::skip_attrs(classes, text, q2);
-        let q4 = values::parse_value(classes, text, words, q3, 64);
-        let q5 = lexer::eat_ws(classes, text, q4);
-        if lexer::looks(text, q5, 44) {
-            q = lexer::pass(text, q5, 1);
+        let x = arg_item(classes, text, words, q1, m);
+        let q2 = x.p;
+        let e = lexer::comma_or(classes, text, q2, b')');
+        m = x.n;
+        q = e.p;
+        if e.more {
             left -= 1;
-            m = values::two_more(m);
         } else {
-            if lexer::looks(text, q5, 41) {
-                let q6 = lexer::pass(text, q5, 1);
-                let k = values::two_more(m);
-                return Listed {
-                    p: q6,
-                    n: k,
-                    dots: 0,
-                };
-            }
-            let q6 = lexer::refuse(q5, 3);
             return Listed {
-                p: q6,
-                n: 0,
+                p: q,
+                n: m,
                 dots: 0,
             };
         }
     }
-    let q1 = lexer::eat_ws(classes, text, q);
-    if lexer::looks(text, q1, 46) {
-        let q2 = lexer::three_dots(text, q1, 5);
-        let q3 = lexer::expect_token(classes, text, q2, 41);
-        return Listed {
-            p: q3,
-            n: m,
-            dots: 0,
-        };
-    }
-    let q2 = types::parse_type(classes, text, words, q1, 64);
-    if odd {
-        let q3 = lexer::refuse(q2, 19);
-        return Listed {
-            p: q3,
-            n: 0,
-            dots: 0,
-        };
-    }
-    let q3 = attributes::skip_attrs(classes, text, q2);
-    let q4 = values::parse_value(classes, text, words, q3, 64);
-    let q5 = lexer::refuse(q4, 19);
+    let q1 = lexer::refuse(q, records::Q_CHILDREN);
     Listed {
-        p: q5,
-        n: 0,
+        p: q1,
+        n: m,
         dots: 0,
     }
 }
@@ -109,21 +85,19 @@ fn call_rest(
     p0: Parsed,
     p: Parsed,
     d: u8,
-    odd: bool,
     n: u16,
 ) -> Parsed
     requires { ⌜ Classes (now classes) ⌝ }
-    requires { ⌜ n ≤ 3 ⌝ }
-    ensures { λ r. ⌜ ((dest : ℕ) (types : List ℕ) → Leads (callRest dest d odd n types) 0 (0 ∷ dest ∷ types) (made same (now (text .entry)) p0) (now (text .entry)) p0 p (now (words .entry)) r (now (words .exit))) ⌝ }
+    ensures { λ r. ⌜ ((dest : ℕ) (types : List ℕ) → Leads (callRest dest d n types) 0 (0 ∷ dest ∷ types) (made same (now (text .entry)) p0) (now (text .entry)) p0 p (now (words .entry)) r (now (words .exit))) ⌝ }
 {
-    let p1 = values::parse_value(classes, text, words, p, 64);
-    let p2 = lexer::expect_token(classes, text, p1, 40);
-    let l = parse_arg_list(classes, text, words, p2, odd, n);
+    let p1 = values::parse_value(classes, text, words, p, records::DEPTH_LIMIT);
+    let p2 = lexer::expect_token(classes, text, p1, b'(');
+    let l = parse_arg_list(classes, text, words, p2, n);
     let p3 = l.p;
     let p4 = attributes::skip_attrs(classes, text, p3);
-    let t = clauses::parse_trailing(classes, text, p4);
+    let t = operands::parse_trailing(classes, text, p4);
     let p5 = t.p;
-    lexer::close(words, p0, p5, 44, d, l.n)
+    writer::close(words, p0, p5, records::K_CALL, d, l.n)
 }
 
 // The n words from `from` on stand from `to` on too, where that is not before them; as far as the array reaches.
@@ -149,8 +123,8 @@ fn copy(words: &mut [u64], from: usize, to: usize, n: usize)
 fn sum(w: usize, n: usize) -> usize
     ensures { λ r. ⌜ (w + n < 4294967296 → r ≡ w + n) ⌝ }
 {
-    if w < 4294967296 {
-        if n < 4294967296 {
+    if w < records::HALF_LIMIT {
+        if n < records::HALF_LIMIT {
             return w + n;
         }
     }
@@ -183,12 +157,11 @@ fn func_type(classes: &[u8; 256], text: &[u8], words: &mut [u64], p: Parsed, s: 
     requires { ⌜ Classes (now classes) ⌝ }
     ensures { λ r. ⌜ ((t : List ℕ) → Held t s p p (now (words .entry)) → Leads (funcType t) (length t + 1) [] (made same (now (text .entry)) p) (now (text .entry)) p p (now (words .entry)) r (now (words .exit))) ⌝ }
 {
-    let p1 = lexer::push(words, p, 0);
+    let p1 = writer::push(words, p, 0);
     let p2 = again(words, s, p, p1);
-    let l = types::parse_type_list(classes, text, words, p2, 63);
+    let l = types::parse_type_list(classes, text, words, p2, records::LIST_DEPTH);
     let p3 = l.p;
-    let n = types::one_more(l.n);
-    lexer::close(words, p, p3, 11, l.dots, n)
+    writer::close(words, p, p3, records::K_FUNC, l.dots, l.n)
 }
 
 // `call T V(..)`, behind the word.
@@ -202,18 +175,18 @@ pub fn parse_call(
     requires { ⌜ Classes (now classes) ⌝ }
     ensures { λ r. ⌜ Leads (parseCall dest) 3 [] (richly (now (text .entry)) (made same (now (text .entry)) p)) (now (text .entry)) p p (now (words .entry)) r (now (words .exit)) ⌝ }
 {
-    let p1 = lexer::push(words, p, 0);
-    let p2 = lexer::push(words, p1, dest);
+    let p1 = writer::push(words, p, 0);
+    let p2 = writer::push(words, p1, dest);
     let p3 = attributes::skip_call_cconv(classes, text, p2);
     let p4 = attributes::skip_attrs(classes, text, p3);
-    let p5 = types::parse_type(classes, text, words, p4, 64);
+    let p5 = types::parse_type(classes, text, words, p4, records::DEPTH_LIMIT);
     let p6 = lexer::eat_ws(classes, text, p5);
-    if lexer::looks(text, p6, 40) {
+    if lexer::looks(text, p6, b'(') {
         let p7 = lexer::pass(text, p6, 1);
         let p8 = func_type(classes, text, words, p7, p4);
-        return call_rest(classes, text, words, p, p8, 1, true, 3);
+        return call_rest(classes, text, words, p, p8, 1, 3);
     }
-    call_rest(classes, text, words, p, p6, 0, false, 2)
+    call_rest(classes, text, words, p, p6, 0, 2)
 }
 
 // `tail call` and its like, behind the first word.

@@ -1,16 +1,18 @@
 -- Question 22, entry by entry.
+-- `chain` makes four tests of each entry, and the loop makes the same four.
 -- Assumes nothing.
 use mathlib.Core.Path.{_≡_, refl, sym, ap, _∙_}
 use mathlib.Core.Bool.{Bool, true, false, _&&_}
 use mathlib.Core.Option.{Option, none, some}
 use mathlib.Core.List.{List, [], _∷_}
-use Prim.Native.Nat.{ℕ, zero, suc, _+_, _-_, _*_, _/_, _%_, _≤_, _<_}
+use Prim.Native.Nat.{ℕ, zero, suc, _+_, _-_, _*_, _≤_, _<_}
 use native.Mathlib.Omega.{arith}
 use native.Mathlib.Nat.{sub-zero}
 use lib.Dec.{leb, eqb}
 use lib.ListN.{length, drop, getD}
 use lib.Seq.{drop-cons}
 use borrow.Author.Tests.{eq-eqb, ne-eqb, le-leb, lt-leb}
+use Rattle.records.specs.Words.{hi, lo}
 use Rattle.records.specs.Pieces.{Old, old, chain, consOld, olds}
 use Rattle.directory.specs.Olds.{answers}
 
@@ -21,12 +23,12 @@ answers-cons o (some os) = refl
 
 -- the four tests at an entry
 tests : (text words pos at x y : ℕ) → Bool
-tests text words pos at x y = eqb (x / 4294967296) pos && eqb (y / 4294967296) at && leb (pos + x % 4294967296) text && leb (at + y % 4294967296) words
+tests text words pos at x y = eqb (hi x) pos && eqb (hi y) at && leb (pos + lo x) text && leb (at + lo y) words
 
 turn : (text words n pos at x y : ℕ) (dir : List ℕ) (b : Bool) → tests text words pos at x y ≡ b
-    → answers (chain text words (suc n) pos at (x ∷ y ∷ dir)) ≡ elim b [ true ↦ answers (chain text words n (pos + x % 4294967296) (at + y % 4294967296) dir) | false ↦ false ]
+    → answers (chain text words (suc n) pos at (x ∷ y ∷ dir)) ≡ elim b [ true ↦ answers (chain text words n (pos + lo x) (at + lo y) dir) | false ↦ false ]
 unfolding chain tests answers
-turn text words n pos at x y dir true t = rw (chain, t) (answers-cons (old (x % 4294967296) at (y % 4294967296)) (chain text words n (pos + x % 4294967296) (at + y % 4294967296) dir))
+turn text words n pos at x y dir true t = rw (chain, t) (answers-cons (old (lo x) at (lo y)) (chain text words n (pos + lo x) (at + lo y) dir))
 turn text words n pos at x y dir false t = rw (chain, t)
 
 -- two words of the directory, and what is behind them
@@ -68,15 +70,15 @@ module _ (text words n : ℕ) (dir : List ℕ) where
     y = getD dir (i * 2 + 1) 0
 
     one : (b : Bool) → tests text words pos at x y ≡ b
-        → answers (olds text words n dir) ≡ elim b [ true ↦ answers (chain text words (n - suc i) (pos + x % 4294967296) (at + y % 4294967296) (drop (suc i * 2) dir)) | false ↦ false ]
+        → answers (olds text words n dir) ≡ elim b [ true ↦ answers (chain text words (n - suc i) (pos + lo x) (at + lo y) (drop (suc i * 2) dir)) | false ↦ false ]
     unfolding x y
     one b t =
         let k : i * 2 + 1 < length dir = omega (arith, asks .inside) in
         let m : n - i ≡ suc (n - suc i) = omega arith in
         asks .same ∙ rw (m, drop-entry dir i k) (turn text words (n - suc i) pos at (getD dir (i * 2) 0) (getD dir (i * 2 + 1) 0) (drop (suc i * 2) dir) b t)
 
-    pub asks-next : getD dir (i * 2) 0 / 4294967296 ≡ pos → getD dir (i * 2 + 1) 0 / 4294967296 ≡ at → pos + getD dir (i * 2) 0 % 4294967296 ≤ text → at + getD dir (i * 2 + 1) 0 % 4294967296 ≤ words
-        → Asks (i + 1) (pos + getD dir (i * 2) 0 % 4294967296) (at + getD dir (i * 2 + 1) 0 % 4294967296)
+    pub asks-next : hi (getD dir (i * 2) 0) ≡ pos → hi (getD dir (i * 2 + 1) 0) ≡ at → pos + lo (getD dir (i * 2) 0) ≤ text → at + lo (getD dir (i * 2 + 1) 0) ≤ words
+        → Asks (i + 1) (pos + lo (getD dir (i * 2) 0)) (at + lo (getD dir (i * 2 + 1) 0))
     unfolding tests x y
     asks-next a b c d =
         let e : i + 1 ≡ suc i = omega arith in
@@ -89,21 +91,21 @@ module _ (text words n : ℕ) (dir : List ℕ) where
     and-false true = refl
     and-false false = refl
 
-    pub start-differs : (getD dir (i * 2) 0 / 4294967296 ≡ pos → ⊥) → false ≡ answers (olds text words n dir)
+    pub start-differs : (hi (getD dir (i * 2) 0) ≡ pos → ⊥) → false ≡ answers (olds text words n dir)
     unfolding tests x y
     start-differs a = refuses (rw (ne-eqb _ _ a))
 
-    pub first-differs : (getD dir (i * 2 + 1) 0 / 4294967296 ≡ at → ⊥) → false ≡ answers (olds text words n dir)
+    pub first-differs : (hi (getD dir (i * 2 + 1) 0) ≡ at → ⊥) → false ≡ answers (olds text words n dir)
     unfolding tests x y
-    first-differs a = refuses (rw (ne-eqb _ _ a, and-false (eqb (getD dir (i * 2) 0 / 4294967296) pos)))
+    first-differs a = refuses (rw (ne-eqb _ _ a, and-false (eqb (hi (getD dir (i * 2) 0)) pos)))
 
-    pub text-ends : text < pos + getD dir (i * 2) 0 % 4294967296 → false ≡ answers (olds text words n dir)
+    pub text-ends : text < pos + lo (getD dir (i * 2) 0) → false ≡ answers (olds text words n dir)
     unfolding tests x y
-    text-ends a = refuses (rw (lt-leb _ _ a, and-false (eqb (getD dir (i * 2) 0 / 4294967296) pos && eqb (getD dir (i * 2 + 1) 0 / 4294967296) at)))
+    text-ends a = refuses (rw (lt-leb _ _ a, and-false (eqb (hi (getD dir (i * 2) 0)) pos && eqb (hi (getD dir (i * 2 + 1) 0)) at)))
 
-    pub words-end : words < at + getD dir (i * 2 + 1) 0 % 4294967296 → false ≡ answers (olds text words n dir)
+    pub words-end : words < at + lo (getD dir (i * 2 + 1) 0) → false ≡ answers (olds text words n dir)
     unfolding tests x y
-    words-end a = refuses (rw (lt-leb _ _ a, and-false (eqb (getD dir (i * 2) 0 / 4294967296) pos && eqb (getD dir (i * 2 + 1) 0 / 4294967296) at && leb (pos + getD dir (i * 2) 0 % 4294967296) text)))
+    words-end a = refuses (rw (lt-leb _ _ a, and-false (eqb (hi (getD dir (i * 2) 0)) pos && eqb (hi (getD dir (i * 2 + 1) 0)) at && leb (pos + lo (getD dir (i * 2) 0)) text)))
 
 -- a directory that is too short
 short : (text words n pos at : ℕ) (dir : List ℕ) → length dir < n * 2 → answers (chain text words n pos at dir) ≡ false
@@ -111,9 +113,9 @@ unfolding chain answers
 short text words zero pos at dir h = absurd (omega arith)
 short text words (suc n) pos at [] h = refl
 short text words (suc n) pos at (x ∷ []) h = refl
-short text words (suc n) pos at (x ∷ y ∷ dir) h = go (tests text words pos at x y) refl (short text words n (pos + x % 4294967296) (at + y % 4294967296) dir (omega arith))
+short text words (suc n) pos at (x ∷ y ∷ dir) h = go (tests text words pos at x y) refl (short text words n (pos + lo x) (at + lo y) dir (omega arith))
   where
-    go : (b : Bool) → tests text words pos at x y ≡ b → answers (chain text words n (pos + x % 4294967296) (at + y % 4294967296) dir) ≡ false → answers (chain text words (suc n) pos at (x ∷ y ∷ dir)) ≡ false
+    go : (b : Bool) → tests text words pos at x y ≡ b → answers (chain text words n (pos + lo x) (at + lo y) dir) ≡ false → answers (chain text words (suc n) pos at (x ∷ y ∷ dir)) ≡ false
     go true t ih = turn text words n pos at x y dir true t ∙ ih
     go false t ih = turn text words n pos at x y dir false t
 

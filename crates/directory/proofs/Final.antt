@@ -1,4 +1,5 @@
 -- The arrays, as the stores of a reading or re-reading in place leave them, and `clear` behind.
+-- Both sides are cut at the same seams, and agree in each part.
 -- Assumes nothing.
 use mathlib.Core.Path.{_≡_, refl, sym, ap, _∙_}
 use mathlib.Core.Bool.{false}
@@ -9,7 +10,7 @@ use native.Mathlib.Nat.{add-zero}
 use native.Mathlib.Omega.{arith}
 use lib.ListN.{length, take, drop, set, replicate, length-append, length-drop, length-set, take-append-drop}
 use lib.Seq.{take-add, take-at, drop-at, drop-drop, length-take-le, take-append-le, take-take, paste, paste-zero}
-use Rattle.records.specs.Pieces.{HeadRead, BlockRead, Run, done, Source, before, Old, Verdict, fine, refused, whole, judge, mapRun, andThen, pad, oldSizes, oldWords, olds, count, no-at, left, leave, again-left, leaveAgain, reading, full, fullVerdict, keeps, rest, judgeAgain, rereadOf, reread}
+use Rattle.records.specs.Pieces.{HeadRead, BlockRead, Run, done, Source, before, Old, Verdict, fine, refused, textAsked, judge, mapRun, andThen, pad, oldSizes, oldWords, olds, count, refusedAt, left, leave, again-left, leaveAgain, reading, full, fullVerdict, keeps, rest, judgeAgain, rereadOf, reread}
 use Rattle.directory.specs.Olds.{answers, oldsOf, moved, Chained, RoomFor, KeptBehind}
 use Rattle.directory.specs.Place.{fullThen, readSize, readWords, readEntries, restLeft, wordsLeft, entriesLeft, Settled}
 use Rattle.directory.proofs.Links.{olds-length, words-split, no-more, not-chained}
@@ -217,8 +218,8 @@ module _ (T len : ℕ) (ws : List ℕ) (n : ℕ) (dir : List ℕ) (c : Chained T
       ∙ rw (← g .number))
 
 -- ---- the calls from outside
-reread-frame : (headAt : List ℕ → HeadRead) (blockAt : List ℕ → BlockRead) (ws dir older newer : List ℕ) (q p : ℕ) → whole newer ≡ refused q p → (o : Option (List Old))
-    → rereadOf headAt blockAt ws dir older newer o ≡ again-left (left (no-at q p) (pad (length ws) []) (pad (length dir) [])) 0 0
+reread-frame : (headAt : List ℕ → HeadRead) (blockAt : List ℕ → BlockRead) (ws dir older newer : List ℕ) (q p : ℕ) → textAsked newer ≡ refused q p → (o : Option (List Old))
+    → rereadOf headAt blockAt ws dir older newer o ≡ again-left (left (refusedAt q p) (pad (length ws) []) (pad (length dir) [])) 0 0
 unfolding rereadOf andThen
 reread-frame headAt blockAt ws dir older newer q p h none = rw h (left-refused ws (length dir) q p 0 done done)
 reread-frame headAt blockAt ws dir older newer q p h (some os) =
@@ -226,27 +227,27 @@ reread-frame headAt blockAt ws dir older newer q p h (some os) =
 
 module _ (headAt : List ℕ → HeadRead) (blockAt : List ℕ → BlockRead) where
   -- a full reading
-  pub full-whole : (W D : ℕ) (text : List ℕ) (q p : ℕ) → whole text ≡ refused q p → full headAt blockAt W D text ≡ left (no-at q p) (pad W []) (pad D [])
+  pub full-text : (W D : ℕ) (text : List ℕ) (q p : ℕ) → textAsked text ≡ refused q p → full headAt blockAt W D text ≡ left (refusedAt q p) (pad W []) (pad D [])
   unfolding full fullVerdict andThen leave
-  full-whole W D text q p h = rw h
+  full-text W D text q p h = rw h
 
-  pub full-is : (W D : ℕ) (text : List ℕ) → whole text ≡ fine → full headAt blockAt W D text ≡ leave W D (judge W D 0 0 0 (mapRun length (reading headAt blockAt text))) (reading headAt blockAt text)
+  pub full-is : (W D : ℕ) (text : List ℕ) → textAsked text ≡ fine → full headAt blockAt W D text ≡ leave W D (judge W D 0 0 0 (mapRun length (reading headAt blockAt text))) (reading headAt blockAt text)
   unfolding full fullVerdict andThen
   full-is W D text h = rw h
 
   -- a re-reading: questions 1 and 2, then 22
-  pub reread-whole : (ws dir : List ℕ) (n : ℕ) (older newer : List ℕ) (q p : ℕ) → whole newer ≡ refused q p
-      → reread headAt blockAt ws dir n older newer ≡ again-left (left (no-at q p) (pad (length ws) []) (pad (length dir) [])) 0 0
+  pub reread-text : (ws dir : List ℕ) (n : ℕ) (older newer : List ℕ) (q p : ℕ) → textAsked newer ≡ refused q p
+      → reread headAt blockAt ws dir n older newer ≡ again-left (left (refusedAt q p) (pad (length ws) []) (pad (length dir) [])) 0 0
   unfolding reread
-  reread-whole ws dir n older newer q p h = reread-frame headAt blockAt ws dir older newer q p h (olds (length older) (length ws) n dir)
+  reread-text ws dir n older newer q p h = reread-frame headAt blockAt ws dir older newer q p h (olds (length older) (length ws) n dir)
 
-  pub reread-unchained : (ws dir : List ℕ) (n : ℕ) (older newer : List ℕ) → whole newer ≡ fine → answers (olds (length older) (length ws) n dir) ≡ false
-      → reread headAt blockAt ws dir n older newer ≡ again-left (left (no-at 22 0) (pad (length ws) []) (pad (length dir) [])) 0 0
+  pub reread-unchained : (ws dir : List ℕ) (n : ℕ) (older newer : List ℕ) → textAsked newer ≡ fine → answers (olds (length older) (length ws) n dir) ≡ false
+      → reread headAt blockAt ws dir n older newer ≡ again-left (left (refusedAt 22 0) (pad (length ws) []) (pad (length dir) [])) 0 0
   unfolding reread rereadOf andThen
   reread-unchained ws dir n older newer h a = rw (not-chained (olds (length older) (length ws) n dir) a, h) (left-refused ws (length dir) 22 0 0 done done)
 
   -- then all that is left is the verdict on the pieces
-  module _ (ws dir : List ℕ) (n : ℕ) (older newer : List ℕ) (h : whole newer ≡ fine) (c : Chained (length older) (length ws) n dir) where
+  module _ (ws dir : List ℕ) (n : ℕ) (older newer : List ℕ) (h : textAsked newer ≡ fine) (c : Chained (length older) (length ws) n dir) where
     pub reread-is : reread headAt blockAt ws dir n older newer
         ≡ leaveAgain ws (length dir) (judgeAgain headAt blockAt (length ws) (length dir) older newer (oldsOf n dir)) (keeps headAt blockAt older newer (oldsOf n dir)) (rest headAt blockAt older newer (oldsOf n dir))
         (before (take (keeps headAt blockAt older newer (oldsOf n dir)) (oldsOf n dir)) (rest headAt blockAt older newer (oldsOf n dir)))
@@ -254,5 +255,5 @@ module _ (headAt : List ℕ → HeadRead) (blockAt : List ℕ → BlockRead) whe
     reread-is = rw (c .is, h)
 
     pub reread-refused : (q p : ℕ) → judgeAgain headAt blockAt (length ws) (length dir) older newer (oldsOf n dir) ≡ refused q p
-        → reread headAt blockAt ws dir n older newer ≡ again-left (left (no-at q p) (pad (length ws) []) (pad (length dir) [])) 0 0
+        → reread headAt blockAt ws dir n older newer ≡ again-left (left (refusedAt q p) (pad (length ws) []) (pad (length dir) [])) 0 0
     reread-refused q p v = reread-is ∙ rw v (left-refused ws (length dir) q p (keeps headAt blockAt older newer (oldsOf n dir)) (rest headAt blockAt older newer (oldsOf n dir)) (before (take (keeps headAt blockAt older newer (oldsOf n dir)) (oldsOf n dir)) (rest headAt blockAt older newer (oldsOf n dir))))

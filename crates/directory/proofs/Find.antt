@@ -1,16 +1,18 @@
 -- The search for an old start, which only moves on.
+-- Starts never fall, so what was passed over is no later target.
 -- Assumes nothing.
 use mathlib.Core.Path.{_≡_, refl, sym, ap, _∙_}
 use mathlib.Core.Bool.{true, false}
 use mathlib.Core.Option.{none, some}
 use mathlib.Core.List.{List, [], _∷_}
-use Prim.Native.Nat.{ℕ, suc, _+_, _-_, _*_, _/_, _≤_, _<_}
+use Prim.Native.Nat.{ℕ, suc, _+_, _-_, _*_, _≤_, _<_}
 use native.Mathlib.Nat.{add-zero}
 use native.Mathlib.Numerals.{add-one}
 use native.Mathlib.Omega.{arith}
 use lib.Dec.{leb, eqb}
 use lib.ListN.{length, take, drop, getD, drop-of-length-le}
 use borrow.Author.Tests.{eq-eqb, ne-eqb, le-leb, lt-leb}
+use Rattle.records.specs.Words.{hi}
 use Rattle.records.specs.Pieces.{Old, old, oldSizes, from, fromBlocks, joins}
 use Rattle.directory.specs.Olds.{oldsOf, Joined, Chained, Passed, FoundAt, FoundNot, JoinsAt, JoinsNot}
 use Rattle.directory.specs.Answers.{Finds, Joins}
@@ -46,7 +48,7 @@ module _ (n : ℕ) (dir : List ℕ) (g : Joined n dir) (j target : ℕ) (p : Pas
   piece : j < n → drop j (oldsOf n dir) ≡ old (sizeAt dir j) (firstAt dir j) (countAt dir j) ∷ drop (suc j) (oldsOf n dir)
   piece h = olds-next n j dir (g .inside) h
 
-  pub found-here : j < n → getD dir (j * 2) 0 / 4294967296 ≡ target → FoundAt (oldsOf n dir) target j
+  pub found-here : j < n → hi (getD dir (j * 2) 0) ≡ target → FoundAt (oldsOf n dir) target j
   found-here h e =
       let s : oldSizes (take j (oldsOf n dir)) ≡ target = sym (g .start j h) ∙ e in
       record {
@@ -55,7 +57,7 @@ module _ (n : ℕ) (dir : List ℕ) (g : Joined n dir) (j target : ℕ) (p : Pas
         start = s;
       }
 
-  pub found-none : j < n → target < getD dir (j * 2) 0 / 4294967296 → FoundNot (oldsOf n dir) target j
+  pub found-none : j < n → target < hi (getD dir (j * 2) 0) → FoundNot (oldsOf n dir) target j
   found-none h e =
       let s : target < oldSizes (take j (oldsOf n dir)) = rw (← g .start j h) e in
       record {
@@ -73,9 +75,9 @@ module _ (n : ℕ) (dir : List ℕ) (g : Joined n dir) (j target : ℕ) (p : Pas
         passed = p;
       }
 
-  pub passed-more : j < n → (getD dir (j * 2) 0 / 4294967296 ≡ target → ⊥) → getD dir (j * 2) 0 / 4294967296 ≤ target → Passed (oldsOf n dir) (j + 1) target
+  pub passed-more : j < n → (hi (getD dir (j * 2) 0) ≡ target → ⊥) → hi (getD dir (j * 2) 0) ≤ target → Passed (oldsOf n dir) (j + 1) target
   passed-more h d l =
-      let s : getD dir (j * 2) 0 / 4294967296 ≡ oldSizes (take j (oldsOf n dir)) = g .start j h in
+      let s : hi (getD dir (j * 2) 0) ≡ oldSizes (take j (oldsOf n dir)) = g .start j h in
       let q : oldSizes (take (suc j) (oldsOf n dir)) ≡ oldSizes (take j (oldsOf n dir)) + sizeAt dir j =
       sizes-step j (oldsOf n dir) (sizeAt dir j) (firstAt dir j) (countAt dir j) (drop (suc j) (oldsOf n dir)) (piece h) in
       let b : oldSizes (take j (oldsOf n dir)) < target = omega arith in

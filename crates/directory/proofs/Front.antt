@@ -1,9 +1,10 @@
 -- The pieces kept in front, one by one.
+-- `keptFront` takes one piece at a time; where the word behind a block ends decides whether its end is settled.
 -- Assumes nothing.
 use mathlib.Core.Path.{_≡_, refl, sym, ap, _∙_, subst}
 use mathlib.Core.Bool.{Bool, true, false, _&&_, not}
 use mathlib.Core.List.{List, [], _∷_}
-use Prim.Native.Nat.{ℕ, zero, suc, _+_, _-_, _*_, _/_, _%_, _≤_, _<_, max}
+use Prim.Native.Nat.{ℕ, zero, suc, _+_, _-_, _*_, _≤_, _<_, max}
 use native.Mathlib.Nat.{add-zero, add-suc, suc-add}
 use native.Mathlib.Numerals.{add-one}
 use native.Mathlib.Omega.{arith}
@@ -13,9 +14,10 @@ use lib.Seq.{drop-drop, length-take-le, getD-take}
 use borrow.Author.Tests.{lt-ltb, le-ltb, eq-eqb, ne-eqb, leb-true, leb-false, ltb-true, ltb-false}
 use Rattle.program.specs.Class.{isWord}
 use Rattle.program.specs.Prog.{ends}
+use Rattle.records.specs.Words.{hi, lo}
 use Rattle.records.specs.Pieces.{Old, old, oldSizes, oldWords, leads, addrspace, closes, keptRest, keptFront}
 use Rattle.directory.specs.Olds.{oldsOf, Joined, WordEnd, FrontIs}
-use Rattle.directory.proofs.Texts.{drop-next}
+use Rattle.texts.proofs.Texts.{drop-next}
 use Rattle.directory.proofs.Links.{sizeAt, firstAt, countAt, olds-next, olds-take, olds-length, sizes-step, words-step}
 
 -- ---- where the first pieces end
@@ -30,24 +32,24 @@ joined-less n m dir h j =
     both : (k : ℕ) → k ≤ m → take k (oldsOf n dir) ≡ take k (oldsOf m dir)
     both k l = olds-take n k dir (omega arith) ∙ sym (olds-take m k dir l)
 
-last-size : (c : ℕ) (dir : List ℕ) → Joined (suc c) dir → getD dir (c * 2) 0 / 4294967296 + getD dir (c * 2) 0 % 4294967296 ≡ oldSizes (oldsOf (suc c) dir)
+last-size : (c : ℕ) (dir : List ℕ) → Joined (suc c) dir → hi (getD dir (c * 2) 0) + lo (getD dir (c * 2) 0) ≡ oldSizes (oldsOf (suc c) dir)
 last-size c dir j =
     rw (j .start c (omega arith))
     (sym (sizes-step c (oldsOf (suc c) dir) (sizeAt dir c) (firstAt dir c) (countAt dir c) (drop (suc c) (oldsOf (suc c) dir)) (olds-next (suc c) c dir (j .inside) (omega arith)))
     ∙ ap oldSizes (olds-take (suc c) (suc c) dir (omega arith)))
 
-last-words : (c : ℕ) (dir : List ℕ) → Joined (suc c) dir → getD dir (c * 2 + 1) 0 / 4294967296 + getD dir (c * 2 + 1) 0 % 4294967296 ≡ oldWords (oldsOf (suc c) dir)
+last-words : (c : ℕ) (dir : List ℕ) → Joined (suc c) dir → hi (getD dir (c * 2 + 1) 0) + lo (getD dir (c * 2 + 1) 0) ≡ oldWords (oldsOf (suc c) dir)
 last-words c dir j =
     rw (j .first c (omega arith))
     (sym (words-step c (oldsOf (suc c) dir) (sizeAt dir c) (firstAt dir c) (countAt dir c) (drop (suc c) (oldsOf (suc c) dir)) (olds-next (suc c) c dir (j .inside) (omega arith)))
     ∙ ap oldWords (olds-take (suc c) (suc c) dir (omega arith)))
 
-pub end-size : (c : ℕ) (dir : List ℕ) → 0 < c → Joined c dir → getD dir ((c - 1) * 2) 0 / 4294967296 + getD dir ((c - 1) * 2) 0 % 4294967296 ≡ oldSizes (oldsOf c dir)
+pub end-size : (c : ℕ) (dir : List ℕ) → 0 < c → Joined c dir → hi (getD dir ((c - 1) * 2) 0) + lo (getD dir ((c - 1) * 2) 0) ≡ oldSizes (oldsOf c dir)
 end-size c dir h j =
     let e : c ≡ suc (c - 1) = omega arith in
     last-size (c - 1) dir (subst (λ (k : ℕ). Joined k dir) e j) ∙ ap (λ (k : ℕ). oldSizes (oldsOf k dir)) (sym e)
 
-pub end-words : (c : ℕ) (dir : List ℕ) → 0 < c → Joined c dir → getD dir ((c - 1) * 2 + 1) 0 / 4294967296 + getD dir ((c - 1) * 2 + 1) 0 % 4294967296 ≡ oldWords (oldsOf c dir)
+pub end-words : (c : ℕ) (dir : List ℕ) → 0 < c → Joined c dir → hi (getD dir ((c - 1) * 2 + 1) 0) + lo (getD dir ((c - 1) * 2 + 1) 0) ≡ oldWords (oldsOf c dir)
 end-words c dir h j =
     let e : c ≡ suc (c - 1) = omega arith in
     last-words (c - 1) dir (subst (λ (k : ℕ). Joined k dir) e j) ∙ ap (λ (k : ℕ). oldWords (oldsOf k dir)) (sym e)
@@ -259,10 +261,10 @@ module _ (s : List ℕ) (n : ℕ) (dir : List ℕ) where
     pieces : (i : ℕ) → suc i < n → drop i (oldsOf n dir) ≡ old (sizeAt dir i) (firstAt dir i) (countAt dir i) ∷ old (sizeAt dir (suc i)) (firstAt dir (suc i)) (countAt dir (suc i)) ∷ drop (suc (suc i)) (oldsOf n dir)
     pieces i h = piece i (omega arith) ∙ ap {B = List Old} (λ t. old (sizeAt dir i) (firstAt dir i) (countAt dir i) ∷ t) (piece (suc i) h)
 
-    pub none-kept : length s ≤ getD dir 0 0 % 4294967296 → 0 ≡ keptFront s (oldsOf n dir)
+    pub none-kept : length s ≤ lo (getD dir 0 0) → 0 ≡ keptFront s (oldsOf n dir)
     none-kept h = sym (front-no-head s (oldsOf n dir) (sizeAt dir 0) (firstAt dir 0) (countAt dir 0) (drop 1 (oldsOf n dir)) (piece 0 (omega arith)) h)
 
-    pub head-kept : getD dir 0 0 % 4294967296 < length s → Going 1 (getD dir 0 0 % 4294967296) 0
+    pub head-kept : lo (getD dir 0 0) < length s → Going 1 (lo (getD dir 0 0)) 0
     head-kept h =
         record {
           low = omega arith;
@@ -278,22 +280,22 @@ module _ (s : List ℕ) (n : ℕ) (dir : List ℕ) where
       stops z = sym (g .rest ∙ rw z (add-zero i))
 
       -- a block is not kept: its end is not below, or the word there is not, or is `addrspace`
-      pub block-out : i + 1 < n → length s ≤ pos + getD dir (i * 2) 0 % 4294967296 → i ≡ keptFront s (oldsOf n dir)
+      pub block-out : i + 1 < n → length s ≤ pos + lo (getD dir (i * 2) 0) → i ≡ keptFront s (oldsOf n dir)
       block-out h l = stops (rest-no-block s pos (drop i (oldsOf n dir)) (sizeAt dir i) (firstAt dir i) (countAt dir i) (old (sizeAt dir (suc i)) (firstAt dir (suc i)) (countAt dir (suc i))) (drop (suc (suc i)) (oldsOf n dir)) (pieces i (omega arith))
-          (closes-out s (pos + getD dir (i * 2) 0 % 4294967296) (far s (pos + getD dir (i * 2) 0 % 4294967296) l)))
+          (closes-out s (pos + lo (getD dir (i * 2) 0)) (far s (pos + lo (getD dir (i * 2) 0)) l)))
 
-      pub block-word : i + 1 < n → (r : ℕ) → WordEnd s (pos + getD dir (i * 2) 0 % 4294967296) r → length s ≤ r → i ≡ keptFront s (oldsOf n dir)
+      pub block-word : i + 1 < n → (r : ℕ) → WordEnd s (pos + lo (getD dir (i * 2) 0)) r → length s ≤ r → i ≡ keptFront s (oldsOf n dir)
       block-word h r e l = stops (rest-no-block s pos (drop i (oldsOf n dir)) (sizeAt dir i) (firstAt dir i) (countAt dir i) (old (sizeAt dir (suc i)) (firstAt dir (suc i)) (countAt dir (suc i))) (drop (suc (suc i)) (oldsOf n dir)) (pieces i (omega arith))
-          (closes-out s (pos + getD dir (i * 2) 0 % 4294967296) (word-out s (pos + getD dir (i * 2) 0 % 4294967296) r e l)))
+          (closes-out s (pos + lo (getD dir (i * 2) 0)) (word-out s (pos + lo (getD dir (i * 2) 0)) r e l)))
 
-      pub block-addrspace : i + 1 < n → leads addrspace (drop (pos + getD dir (i * 2) 0 % 4294967296) s) ≡ true → i ≡ keptFront s (oldsOf n dir)
+      pub block-addrspace : i + 1 < n → leads addrspace (drop (pos + lo (getD dir (i * 2) 0)) s) ≡ true → i ≡ keptFront s (oldsOf n dir)
       block-addrspace h l = stops (rest-no-block s pos (drop i (oldsOf n dir)) (sizeAt dir i) (firstAt dir i) (countAt dir i) (old (sizeAt dir (suc i)) (firstAt dir (suc i)) (countAt dir (suc i))) (drop (suc (suc i)) (oldsOf n dir)) (pieces i (omega arith))
-          (closes-addrspace s (pos + getD dir (i * 2) 0 % 4294967296) l))
+          (closes-addrspace s (pos + lo (getD dir (i * 2) 0)) l))
 
-      pub block-kept : i + 1 < n → (r : ℕ) → WordEnd s (pos + getD dir (i * 2) 0 % 4294967296) r → r < length s → leads addrspace (drop (pos + getD dir (i * 2) 0 % 4294967296) s) ≡ false
-          → Going (i + 1) (pos + getD dir (i * 2) 0 % 4294967296) r
+      pub block-kept : i + 1 < n → (r : ℕ) → WordEnd s (pos + lo (getD dir (i * 2) 0)) r → r < length s → leads addrspace (drop (pos + lo (getD dir (i * 2) 0)) s) ≡ false
+          → Going (i + 1) (pos + lo (getD dir (i * 2) 0)) r
       block-kept h r e l a =
-          let p : ℕ = pos + getD dir (i * 2) 0 % 4294967296 in
+          let p : ℕ = pos + lo (getD dir (i * 2) 0) in
           let q : i + 1 ≡ suc i = add-one i in
           let c : closes (drop p s) ≡ true = closes-in s p (word-in s p r e l) a in
           let k : keptRest (drop pos s) (drop i (oldsOf n dir)) ≡ suc (keptRest (drop p s) (drop (suc i) (oldsOf n dir))) =
@@ -312,10 +314,10 @@ module _ (s : List ℕ) (n : ℕ) (dir : List ℕ) where
       last : n ≤ i + 1 → drop i (oldsOf n dir) ≡ old (sizeAt dir i) (firstAt dir i) (countAt dir i) ∷ []
       last h = piece i (g .high) ∙ ap {B = List Old} (λ t. old (sizeAt dir i) (firstAt dir i) (countAt dir i) ∷ t) (drop-of-length-le (oldsOf n dir) {i = suc i} (omega (arith, olds-length n dir inside)))
 
-      pub tail-out : n ≤ i + 1 → length s ≤ pos + getD dir (i * 2) 0 % 4294967296 → i ≡ keptFront s (oldsOf n dir)
+      pub tail-out : n ≤ i + 1 → length s ≤ pos + lo (getD dir (i * 2) 0) → i ≡ keptFront s (oldsOf n dir)
       tail-out h l = stops (rest-no-tail s pos (drop i (oldsOf n dir)) (sizeAt dir i) (firstAt dir i) (countAt dir i) (last h) (g .below) l)
 
-      pub tail-kept : n ≤ i + 1 → pos + getD dir (i * 2) 0 % 4294967296 < length s → i + 1 ≡ keptFront s (oldsOf n dir)
+      pub tail-kept : n ≤ i + 1 → pos + lo (getD dir (i * 2) 0) < length s → i + 1 ≡ keptFront s (oldsOf n dir)
       tail-kept h l = sym (g .rest ∙ rw (rest-tail s pos (drop i (oldsOf n dir)) (sizeAt dir i) (firstAt dir i) (countAt dir i) (last h) l))
 
   -- where `front_of` answers for the pieces that are kept

@@ -1,14 +1,18 @@
 -- Questions 20 and 21 of one piece.
+-- `judge` asks of each piece the tests of `roomOf`, in that order.
 -- Assumes nothing.
 use mathlib.Core.Path.{_≡_, refl, sym, _∙_}
 use mathlib.Core.Bool.{Bool, true, false, _&&_}
 use mathlib.Core.List.{List, [], _∷_}
-use Prim.Native.Nat.{ℕ, suc, _+_, _*_, _%_, _≤_, _<_}
+use Prim.Native.Nat.{ℕ, suc, _+_, _*_, _≤_, _<_}
 use native.Mathlib.Numerals.{add-one}
 use native.Mathlib.Omega.{arith}
 use lib.Dec.{leb, ltb}
 use lib.ListN.{length, drop, getD, drop-of-length-le}
 use borrow.Author.Tests.{le-leb, lt-leb, lt-ltb, le-ltb, leb-true, ltb-true}
+use Rattle.records.specs.Questions.{qWords, qEntries}
+use Rattle.records.specs.Limits.{halfLimit}
+use Rattle.records.specs.Words.{lo}
 use Rattle.records.specs.Pieces.{Run, done, item, mapRun, size, before, Old, old, oldSizes, oldWords, judge, fine, refused, Verdict}
 use Rattle.directory.specs.Answers.{roomOf, afterRoom}
 use Rattle.directory.specs.Olds.{oldsOf, RoomFor}
@@ -21,11 +25,11 @@ module _ (words dir i at n : ℕ) where
   unfolding roomOf
   no-words h = rw (roomOf, lt-leb _ _ h)
 
-  pub no-number : at + n ≤ words → 4294967296 ≤ at + n → roomOf words dir i at n ≡ Words
+  pub no-number : at + n ≤ words → halfLimit ≤ at + n → roomOf words dir i at n ≡ Words
   unfolding roomOf
   no-number h k = rw (roomOf, le-leb _ _ h, le-ltb _ _ k)
 
-  module _ (h : at + n ≤ words) (k : at + n < 4294967296) where
+  module _ (h : at + n ≤ words) (k : at + n < halfLimit) where
     pub no-entry : dir < i * 2 + 2 → roomOf words dir i at n ≡ Entry
     unfolding roomOf
     no-entry l = rw (roomOf, le-leb _ _ h, lt-ltb _ _ k, lt-leb _ _ l)
@@ -37,9 +41,9 @@ module _ (words dir i at n : ℕ) where
   -- one step of `judge`, as `room_for` answers it
   pub judge-item : (pos e : ℕ) (r : Run ℕ) → judge words dir i pos at (item e n r) ≡ afterRoom (roomOf words dir i at n) (pos + e) (judge words dir (suc i) (pos + e) (at + n) r)
   unfolding judge roomOf afterRoom
-  judge-item pos e r = go (leb (at + n) words && ltb (at + n) 4294967296) refl
+  judge-item pos e r = go (leb (at + n) words && ltb (at + n) halfLimit) refl
     where
-      go : (b : Bool) → (leb (at + n) words && ltb (at + n) 4294967296) ≡ b → judge words dir i pos at (item e n r) ≡ afterRoom (roomOf words dir i at n) (pos + e) (judge words dir (suc i) (pos + e) (at + n) r)
+      go : (b : Bool) → (leb (at + n) words && ltb (at + n) halfLimit) ≡ b → judge words dir i pos at (item e n r) ≡ afterRoom (roomOf words dir i at n) (pos + e) (judge words dir (suc i) (pos + e) (at + n) r)
       go false t = rw (judge, roomOf, t)
       go true t = go2 (leb (i * 2 + 2) dir) refl
         where
@@ -50,7 +54,7 @@ module _ (words dir i at n : ℕ) where
 -- what a yes says
 pub record Fitting (words dir i at n : ℕ) : Type 0 where
   pub in-words : at + n ≤ words
-  pub small : at + n < 4294967296
+  pub small : at + n < halfLimit
   pub entry : i * 2 + 2 ≤ dir
 
 pub fitting : (words dir i at n : ℕ) → roomOf words dir i at n ≡ Fits → Fitting words dir i at n
@@ -59,15 +63,15 @@ fitting words dir i at n h = go (leb (at + n) words) refl
   where
     go : (a : Bool) → leb (at + n) words ≡ a → Fitting words dir i at n
     go false p = let w : Words ≡ Fits = rw (roomOf, p) at h in let z : _≡_ {A = ℕ} 0 1 = cc in absurd (omega arith)
-    go true p = go2 (ltb (at + n) 4294967296) refl
+    go true p = go2 (ltb (at + n) halfLimit) refl
       where
-        go2 : (b : Bool) → ltb (at + n) 4294967296 ≡ b → Fitting words dir i at n
+        go2 : (b : Bool) → ltb (at + n) halfLimit ≡ b → Fitting words dir i at n
         go2 false q = let w : Words ≡ Fits = rw (roomOf, p, q) at h in let z : _≡_ {A = ℕ} 0 1 = cc in absurd (omega arith)
         go2 true q = go3 (leb (i * 2 + 2) dir) refl
           where
             go3 : (c : Bool) → leb (i * 2 + 2) dir ≡ c → Fitting words dir i at n
             go3 false r = let w : Entry ≡ Fits = rw (roomOf, p, q, r) at h in let z : _≡_ {A = ℕ} 0 1 = cc in absurd (omega arith)
-            go3 true r = record { in-words = leb-true (at + n) words p; small = ltb-true (at + n) 4294967296 q; entry = leb-true (i * 2 + 2) dir r }
+            go3 true r = record { in-words = leb-true (at + n) words p; small = ltb-true (at + n) halfLimit q; entry = leb-true (i * 2 + 2) dir r }
 
 -- ---- old pieces, one by one
 abbrev pub sizesOf : List Old → Run ℕ
@@ -83,7 +87,7 @@ judge-none W D i pos at = refl
 
 -- v is what is still to be judged, from old piece k on
 pub record Judging (W D n : ℕ) (dir : List ℕ) (v : Verdict) (k i pos at : ℕ) : Type 0 where
-  pub small : pos + oldSizes (drop k (oldsOf n dir)) < 4294967296
+  pub small : pos + oldSizes (drop k (oldsOf n dir)) < halfLimit
   pub same : v ≡ judge W D i pos at (sizesOf (drop k (oldsOf n dir)))
 
 module _ (W D n : ℕ) (dir : List ℕ) (v : Verdict) (inside : n * 2 ≤ length dir) where
@@ -101,18 +105,18 @@ module _ (W D n : ℕ) (dir : List ℕ) (v : Verdict) (inside : n * 2 ≤ length
     unfolding oldSizes
     rest-size = rw piece
 
-    pub place-small : pos + getD dir (k * 2) 0 % 4294967296 < 4294967296
+    pub place-small : pos + lo (getD dir (k * 2) 0) < halfLimit
     place-small = omega (arith, g .small, rest-size)
 
-    pub judging-words : Words ≡ roomOf W D i at (getD dir (k * 2 + 1) 0 % 4294967296) → refused 20 (pos + getD dir (k * 2) 0 % 4294967296) ≡ v
+    pub judging-words : Words ≡ roomOf W D i at (lo (getD dir (k * 2 + 1) 0)) → refused qWords (pos + lo (getD dir (k * 2) 0)) ≡ v
     unfolding afterRoom
     judging-words r = sym (turn ∙ rw (← r))
 
-    pub judging-entry : Entry ≡ roomOf W D i at (getD dir (k * 2 + 1) 0 % 4294967296) → refused 21 (pos + getD dir (k * 2) 0 % 4294967296) ≡ v
+    pub judging-entry : Entry ≡ roomOf W D i at (lo (getD dir (k * 2 + 1) 0)) → refused qEntries (pos + lo (getD dir (k * 2) 0)) ≡ v
     unfolding afterRoom
     judging-entry r = sym (turn ∙ rw (← r))
 
-    pub judging-next : Fits ≡ roomOf W D i at (getD dir (k * 2 + 1) 0 % 4294967296) → Judging W D n dir v (k + 1) (i + 1) (pos + getD dir (k * 2) 0 % 4294967296) (at + getD dir (k * 2 + 1) 0 % 4294967296)
+    pub judging-next : Fits ≡ roomOf W D i at (lo (getD dir (k * 2 + 1) 0)) → Judging W D n dir v (k + 1) (i + 1) (pos + lo (getD dir (k * 2) 0)) (at + lo (getD dir (k * 2 + 1) 0))
     unfolding afterRoom
     judging-next r =
         rw (add-one k, add-one i)
@@ -125,7 +129,7 @@ after-fine Fits p v h = (refl, h)
 after-fine Words p v h = let z : _≡_ {A = ℕ} 0 1 = cc in absurd (omega arith)
 after-fine Entry p v h = let z : _≡_ {A = ℕ} 0 1 = cc in absurd (omega arith)
 
-rest-small : (W D i at n : ℕ) (os : List Old) → Fitting W D i at n → RoomFor W D (suc i) (at + n) os → at + (n + oldWords os) < 4294967296
+rest-small : (W D i at n : ℕ) (os : List Old) → Fitting W D i at n → RoomFor W D (suc i) (at + n) os → at + (n + oldWords os) < halfLimit
 unfolding oldWords
 rest-small W D i at n [] g r = omega (arith, g .small)
 rest-small W D i at n (old e f m ∷ os) g r = omega (arith, r .small (omega arith))

@@ -1,15 +1,18 @@
 -- What question 22 grants, and the pieces that a directory names, one by one.
+-- By induction on the entries, as `chain` takes them apart.
 -- Assumes nothing.
 use mathlib.Core.Path.{_≡_, refl, sym, ap, _∙_}
 use mathlib.Core.Bool.{Bool, true, false, _&&_}
 use mathlib.Core.Option.{Option, none, some}
 use mathlib.Core.List.{List, [], _∷_}
-use Prim.Native.Nat.{ℕ, zero, suc, _+_, _-_, _*_, _/_, _%_, _≤_, _<_}
+use Prim.Native.Nat.{ℕ, zero, suc, _+_, _-_, _*_, _/_, _≤_, _<_}
 use native.Mathlib.Nat.{add-zero, zero-add, add-assoc}
 use native.Mathlib.Omega.{arith}
 use lib.Dec.{leb, eqb}
 use lib.ListN.{length, take, drop, getD, drop-of-length-le}
 use borrow.Author.Tests.{leb-true, eqb-true}
+use Rattle.records.specs.Limits.{halfLimit}
+use Rattle.records.specs.Words.{hi, lo}
 use Rattle.records.specs.Pieces.{Old, old, chain, consOld, olds, oldSizes, oldWords}
 use Rattle.directory.specs.Olds.{answers, oldsOf, Chained}
 
@@ -46,13 +49,13 @@ twice j = omega arith
 module _ (dir : List ℕ) (j : ℕ) where
   -- its length, first word and number of words
   abbrev pub sizeAt : ℕ
-  sizeAt = getD dir (j * 2) 0 % 4294967296
+  sizeAt = lo (getD dir (j * 2) 0)
 
   abbrev pub firstAt : ℕ
-  firstAt = getD dir (j * 2 + 1) 0 / 4294967296
+  firstAt = hi (getD dir (j * 2 + 1) 0)
 
   abbrev pub countAt : ℕ
-  countAt = getD dir (j * 2 + 1) 0 % 4294967296
+  countAt = lo (getD dir (j * 2 + 1) 0)
 
 pub olds-length : (n : ℕ) (dir : List ℕ) → n * 2 ≤ length dir → length (oldsOf n dir) ≡ n
 unfolding oldsOf
@@ -77,7 +80,7 @@ olds-take n zero dir h = refl
 olds-take zero (suc j) dir h = absurd (omega arith)
 olds-take (suc n) (suc j) [] h = refl
 olds-take (suc n) (suc j) (x ∷ []) h = refl
-olds-take (suc n) (suc j) (x ∷ y ∷ dir) h = ap {B = List Old} (λ t. old (x % 4294967296) (y / 4294967296) (y % 4294967296) ∷ t) (olds-take n j dir (omega arith))
+olds-take (suc n) (suc j) (x ∷ y ∷ dir) h = ap {B = List Old} (λ t. old (lo x) (hi y) (lo y) ∷ t) (olds-take n j dir (omega arith))
 
 none-named : (b : ℕ) → _≡_ {A = List Old} [] (oldsOf b [])
 unfolding oldsOf
@@ -109,12 +112,12 @@ no-more n dir h = drop-of-length-le (oldsOf n dir) {i = n} (omega (arith, olds-l
 -- ---- a chain
 record Step (T W n pos at x y : ℕ) (dir : List ℕ) (os : List Old) : Type 0 where
   others : List Old
-  is : os ≡ old (x % 4294967296) at (y % 4294967296) ∷ others
-  start : x / 4294967296 ≡ pos
-  first : y / 4294967296 ≡ at
-  in-text : pos + x % 4294967296 ≤ T
-  in-words : at + y % 4294967296 ≤ W
-  rest-is : chain T W n (pos + x % 4294967296) (at + y % 4294967296) dir ≡ some others
+  is : os ≡ old (lo x) at (lo y) ∷ others
+  start : hi x ≡ pos
+  first : hi y ≡ at
+  in-text : pos + lo x ≤ T
+  in-words : at + lo y ≤ W
+  rest-is : chain T W n (pos + lo x) (at + lo y) dir ≡ some others
 
 and-true : (a b : Bool) → (a && b) ≡ true → (a ≡ true) × (b ≡ true)
 and-true true b h = (refl, h)
@@ -125,22 +128,22 @@ unfolding chain consOld
 step T W n pos at x y dir os h = go (a && b && c && d) refl
   where
     a : Bool
-    a = eqb (x / 4294967296) pos
+    a = eqb (hi x) pos
 
     b : Bool
-    b = eqb (y / 4294967296) at
+    b = eqb (hi y) at
 
     c : Bool
-    c = leb (pos + x % 4294967296) T
+    c = leb (pos + lo x) T
 
     d : Bool
-    d = leb (at + y % 4294967296) W
+    d = leb (at + lo y) W
 
     go : (t : Bool) → (a && b && c && d) ≡ t → Step T W n pos at x y dir os
     go false p = let w : none ≡ some os = rw (chain, p) at h in let z : _≡_ {A = ℕ} 0 1 = cc in absurd (omega arith)
-    go true p = go2 (chain T W n (pos + x % 4294967296) (at + y % 4294967296) dir) refl
+    go true p = go2 (chain T W n (pos + lo x) (at + lo y) dir) refl
       where
-        w : consOld (old (x % 4294967296) at (y % 4294967296)) (chain T W n (pos + x % 4294967296) (at + y % 4294967296) dir) ≡ some os
+        w : consOld (old (lo x) at (lo y)) (chain T W n (pos + lo x) (at + lo y) dir) ≡ some os
         w = rw (chain, p) at h
 
         q1 : ((a && b && c) ≡ true) × (d ≡ true)
@@ -152,41 +155,41 @@ step T W n pos at x y dir os h = go (a && b && c && d) refl
         q3 : (a ≡ true) × (b ≡ true)
         q3 = and-true a b (q2 .0)
 
-        go2 : (r : Option (List Old)) → chain T W n (pos + x % 4294967296) (at + y % 4294967296) dir ≡ r → Step T W n pos at x y dir os
+        go2 : (r : Option (List Old)) → chain T W n (pos + lo x) (at + lo y) dir ≡ r → Step T W n pos at x y dir os
         go2 none u = let w2 : none ≡ some os = rw u at w in let z : _≡_ {A = ℕ} 0 1 = cc in absurd (omega arith)
         go2 (some os2) u =
-            let w2 : some (old (x % 4294967296) at (y % 4294967296) ∷ os2) ≡ some os = rw u at w in
+            let w2 : some (old (lo x) at (lo y) ∷ os2) ≡ some os = rw u at w in
             record {
               others = os2;
               is = cc;
-              start = eqb-true (x / 4294967296) pos (q3 .0);
-              first = eqb-true (y / 4294967296) at (q3 .1);
-              in-text = leb-true (pos + x % 4294967296) T (q2 .1);
-              in-words = leb-true (at + y % 4294967296) W (q1 .1);
+              start = eqb-true (hi x) pos (q3 .0);
+              first = eqb-true (hi y) at (q3 .1);
+              in-text = leb-true (pos + lo x) T (q2 .1);
+              in-words = leb-true (at + lo y) W (q1 .1);
               rest-is = u;
             }
 
 record Links (T W n pos at : ℕ) (dir : List ℕ) (os : List Old) : Type 0 where
   same : os ≡ oldsOf n dir
   inside : n * 2 ≤ length dir
-  start : (m : ℕ) → m < n → getD dir (m * 2) 0 / 4294967296 ≡ pos + oldSizes (take m os)
-  first : (m : ℕ) → m < n → getD dir (m * 2 + 1) 0 / 4294967296 ≡ at + oldWords (take m os)
+  start : (m : ℕ) → m < n → hi (getD dir (m * 2) 0) ≡ pos + oldSizes (take m os)
+  first : (m : ℕ) → m < n → hi (getD dir (m * 2 + 1) 0) ≡ at + oldWords (take m os)
   in-text : pos ≤ T → pos + oldSizes os ≤ T
   in-words : at ≤ W → at + oldWords os ≤ W
 
-starts : (T W n pos at x y : ℕ) (dir : List ℕ) (os others : List Old) → x / 4294967296 ≡ pos → Links T W n (pos + x % 4294967296) (at + y % 4294967296) dir others
-    → (k : ℕ) → k < suc n → getD (x ∷ y ∷ dir) (k * 2) 0 / 4294967296 ≡ pos + oldSizes (take k (old (x % 4294967296) at (y % 4294967296) ∷ others))
+starts : (T W n pos at x y : ℕ) (dir : List ℕ) (os others : List Old) → hi x ≡ pos → Links T W n (pos + lo x) (at + lo y) dir others
+    → (k : ℕ) → k < suc n → getD (x ∷ y ∷ dir) (k * 2) 0 / halfLimit ≡ pos + oldSizes (take k (old (lo x) at (lo y) ∷ others))
 unfolding oldSizes
 starts T W n pos at x y dir os others h ih zero l = h ∙ sym (add-zero pos)
-starts T W n pos at x y dir os others h ih (suc k) l = rw (twice k) (ih .start k (omega arith) ∙ add-assoc pos (x % 4294967296) (oldSizes (take k others)))
+starts T W n pos at x y dir os others h ih (suc k) l = rw (twice k) (ih .start k (omega arith) ∙ add-assoc pos (lo x) (oldSizes (take k others)))
 
-firsts : (T W n pos at x y : ℕ) (dir : List ℕ) (os others : List Old) → y / 4294967296 ≡ at → Links T W n (pos + x % 4294967296) (at + y % 4294967296) dir others
-    → (k : ℕ) → k < suc n → getD (x ∷ y ∷ dir) (k * 2 + 1) 0 / 4294967296 ≡ at + oldWords (take k (old (x % 4294967296) at (y % 4294967296) ∷ others))
+firsts : (T W n pos at x y : ℕ) (dir : List ℕ) (os others : List Old) → hi y ≡ at → Links T W n (pos + lo x) (at + lo y) dir others
+    → (k : ℕ) → k < suc n → getD (x ∷ y ∷ dir) (k * 2 + 1) 0 / halfLimit ≡ at + oldWords (take k (old (lo x) at (lo y) ∷ others))
 unfolding oldWords
 firsts T W n pos at x y dir os others h ih zero l = h ∙ sym (add-zero at)
 firsts T W n pos at x y dir os others h ih (suc k) l =
     let q : suc k * 2 + 1 ≡ suc (suc (k * 2 + 1)) = omega arith in
-    rw q (ih .first k (omega arith) ∙ add-assoc at (y % 4294967296) (oldWords (take k others)))
+    rw q (ih .first k (omega arith) ∙ add-assoc at (lo y) (oldWords (take k others)))
 
 links : (T W n pos at : ℕ) (dir : List ℕ) (os : List Old) → chain T W n pos at dir ≡ some os → Links T W n pos at dir os
 unfolding chain oldsOf oldSizes oldWords
@@ -205,8 +208,8 @@ links T W (suc n) pos at [] os h = let z : _≡_ {A = ℕ} 0 1 = cc in absurd (o
 links T W (suc n) pos at (x ∷ []) os h = let z : _≡_ {A = ℕ} 0 1 = cc in absurd (omega arith)
 links T W (suc n) pos at (x ∷ y ∷ dir) os h =
     let c : Step T W n pos at x y dir os = step T W n pos at x y dir os h in
-    let e : ℕ = x % 4294967296 in
-    let m : ℕ = y % 4294967296 in
+    let e : ℕ = lo x in
+    let m : ℕ = lo y in
     let ih : Links T W n (pos + e) (at + m) dir (c .others) = links T W n (pos + e) (at + m) dir (c .others) (c .rest-is) in
     rw (c .is)
     (record {

@@ -1,14 +1,16 @@
 -- Entries that get new starts and first words, one by one.
+-- By induction on the entries: a move changes starts and never lengths, so the sums stay.
 -- Assumes nothing.
 use mathlib.Core.Path.{_≡_, refl, sym, ap, _∙_}
 use mathlib.Core.List.{List, [], _∷_, _++_, append-assoc}
-use Prim.Native.Nat.{ℕ, zero, suc, _+_, _-_, _*_, _/_, _%_, _≤_, _<_}
+use Prim.Native.Nat.{ℕ, zero, suc, _+_, _-_, _*_, _≤_, _<_}
 use native.Mathlib.Nat.{add-zero, add-assoc}
 use native.Mathlib.Numerals.{add-one}
 use native.Mathlib.Omega.{arith}
 use lib.ListN.{length, take, drop, getD, set, length-set, length-append, length-drop, take-append-drop}
 use lib.Seq.{length-take-le, sets-eq, getD-drop, getD-append-add, paste, take-at, drop-at, drop-drop, length-paste, drop-paste}
-use Rattle.records.specs.Words.{pack}
+use Rattle.records.specs.Words.{pack, hi, lo}
+use Rattle.records.specs.Limits.{halfLimit}
 use Rattle.records.specs.Pieces.{Old, old, oldSizes, oldWords}
 use Rattle.directory.specs.Olds.{oldsOf, moved}
 use Rattle.directory.proofs.Links.{sizeAt, firstAt, countAt, olds-next, olds-take, olds-drop, sizes-step, words-step, sizes-split, words-split}
@@ -21,7 +23,7 @@ unfolding moved
 moved-length zero pos at dir h = refl
 moved-length (suc n) pos at [] h = absurd (omega arith)
 moved-length (suc n) pos at (x ∷ []) h = absurd (omega arith)
-moved-length (suc n) pos at (x ∷ y ∷ dir) h = omega (arith, moved-length n (pos + x % 4294967296) (at + y % 4294967296) dir (omega arith))
+moved-length (suc n) pos at (x ∷ y ∷ dir) h = omega (arith, moved-length n (pos + lo x) (at + lo y) dir (omega arith))
 
 -- one more
 pub moved-more : (n pos at : ℕ) (dir : List ℕ) → suc n * 2 ≤ length dir
@@ -32,8 +34,8 @@ moved-more n pos at (x ∷ []) h = absurd (omega arith)
 moved-more zero pos at (x ∷ y ∷ dir) h = rw (add-zero pos, add-zero at)
 moved-more (suc n) pos at (x ∷ y ∷ dir) h =
     let e : suc n * 2 + 1 ≡ suc (suc (n * 2 + 1)) = omega arith in
-    rw (e, twice n, ← add-assoc pos (x % 4294967296) (oldSizes (oldsOf n dir)), ← add-assoc at (y % 4294967296) (oldWords (oldsOf n dir)))
-    (ap {B = List ℕ} (λ t. pack pos (x % 4294967296) ∷ pack at (y % 4294967296) ∷ t) (moved-more n (pos + x % 4294967296) (at + y % 4294967296) dir (omega arith)))
+    rw (e, twice n, ← add-assoc pos (lo x) (oldSizes (oldsOf n dir)), ← add-assoc at (lo y) (oldWords (oldsOf n dir)))
+    (ap {B = List ℕ} (λ t. pack pos (lo x) ∷ pack at (lo y) ∷ t) (moved-more n (pos + lo x) (at + lo y) dir (omega arith)))
 
 -- only the first n entries matter
 pub moved-front : (n pos at : ℕ) (dir rest : List ℕ) → n * 2 ≤ length dir → moved n pos at (take (n * 2) dir ++ rest) ≡ moved n pos at dir
@@ -42,14 +44,14 @@ moved-front zero pos at dir rest h = refl
 moved-front (suc n) pos at [] rest h = absurd (omega arith)
 moved-front (suc n) pos at (x ∷ []) rest h = absurd (omega arith)
 moved-front (suc n) pos at (x ∷ y ∷ dir) rest h =
-    rw (twice n) (ap {B = List ℕ} (λ t. pack pos (x % 4294967296) ∷ pack at (y % 4294967296) ∷ t) (moved-front n (pos + x % 4294967296) (at + y % 4294967296) dir rest (omega arith)))
+    rw (twice n) (ap {B = List ℕ} (λ t. pack pos (lo x) ∷ pack at (lo y) ∷ t) (moved-front n (pos + lo x) (at + lo y) dir rest (omega arith)))
 
 pub olds-front : (n : ℕ) (dir rest : List ℕ) → n * 2 ≤ length dir → oldsOf n (take (n * 2) dir ++ rest) ≡ oldsOf n dir
 unfolding oldsOf
 olds-front zero dir rest h = refl
 olds-front (suc n) [] rest h = absurd (omega arith)
 olds-front (suc n) (x ∷ []) rest h = absurd (omega arith)
-olds-front (suc n) (x ∷ y ∷ dir) rest h = rw (twice n) (ap {B = List Old} (λ t. old (x % 4294967296) (y / 4294967296) (y % 4294967296) ∷ t) (olds-front n dir rest (omega arith)))
+olds-front (suc n) (x ∷ y ∷ dir) rest h = rw (twice n) (ap {B = List Old} (λ t. old (lo x) (hi y) (lo y) ∷ t) (olds-front n dir rest (omega arith)))
 
 -- ---- one entry is put
 pub entry-put : (l : List ℕ) (j x y : ℕ) → j + 2 ≤ length l → set (set l j x) (j + 1) y ≡ take j l ++ ((x ∷ y ∷ []) ++ drop (j + 2) l)
@@ -108,11 +110,11 @@ module _ (d : List ℕ) (i n pos at : ℕ) (room : (i + n) * 2 ≤ length d) whe
         ∙ ap (λ (c : ℕ). getD d c 0) (sym q)
         ∙ sym (getD-drop (i * 2) d (k * 2 + m) 0)
 
-    pub read-size : getD cur ((i + k) * 2) 0 % 4294967296 ≡ sizeAt (drop (i * 2) d) k
-    read-size = ap (λ (x : ℕ). x % 4294967296) (rw (add-zero ((i + k) * 2), add-zero (k * 2)) at (read 0))
+    pub read-size : lo (getD cur ((i + k) * 2) 0) ≡ sizeAt (drop (i * 2) d) k
+    read-size = ap (λ (x : ℕ). lo x) (rw (add-zero ((i + k) * 2), add-zero (k * 2)) at (read 0))
 
-    pub read-count : getD cur ((i + k) * 2 + 1) 0 % 4294967296 ≡ countAt (drop (i * 2) d) k
-    read-count = ap (λ (x : ℕ). x % 4294967296) (read 1)
+    pub read-count : lo (getD cur ((i + k) * 2 + 1) 0) ≡ countAt (drop (i * 2) d) k
+    read-count = ap (λ (x : ℕ). lo x) (read 1)
 
     piece : drop k (oldsOf n (drop (i * 2) d)) ≡ old (sizeAt (drop (i * 2) d) k) (firstAt (drop (i * 2) d) k) (countAt (drop (i * 2) d) k) ∷ drop (suc k) (oldsOf n (drop (i * 2) d))
     piece = olds-next n k (drop (i * 2) d) behind h
@@ -135,20 +137,20 @@ module _ (d : List ℕ) (i n pos at : ℕ) (room : (i + n) * 2 ≤ length d) whe
     whole-words : oldWords (oldsOf (suc k) (drop (i * 2) d)) ≤ oldWords (oldsOf n (drop (i * 2) d))
     whole-words = omega (arith, words-split (suc k) (oldsOf n (drop (i * 2) d)), ap oldWords (olds-take n (suc k) (drop (i * 2) d) h))
 
-    pub place-ends : place + getD cur ((i + k) * 2) 0 % 4294967296 ≤ pos + oldSizes (oldsOf n (drop (i * 2) d))
+    pub place-ends : place + lo (getD cur ((i + k) * 2) 0) ≤ pos + oldSizes (oldsOf n (drop (i * 2) d))
     place-ends = omega (arith, g .place-is, read-size, sizes, whole-sizes)
 
-    pub first-ends : first + getD cur ((i + k) * 2 + 1) 0 % 4294967296 ≤ at + oldWords (oldsOf n (drop (i * 2) d))
+    pub first-ends : first + lo (getD cur ((i + k) * 2 + 1) 0) ≤ at + oldWords (oldsOf n (drop (i * 2) d))
     first-ends = omega (arith, g .first-is, read-count, words, whole-words)
 
     pub renumber-next : (next : List ℕ)
-        → next ≡ set (set cur ((i + k) * 2) (pack place (getD cur ((i + k) * 2) 0 % 4294967296))) ((i + k) * 2 + 1) (pack first (getD cur ((i + k) * 2 + 1) 0 % 4294967296))
-        → Renumbering d i n pos at (k + 1) (place + getD cur ((i + k) * 2) 0 % 4294967296) (first + getD cur ((i + k) * 2 + 1) 0 % 4294967296) next
+        → next ≡ set (set cur ((i + k) * 2) (pack place (lo (getD cur ((i + k) * 2) 0)))) ((i + k) * 2 + 1) (pack first (lo (getD cur ((i + k) * 2 + 1) 0)))
+        → Renumbering d i n pos at (k + 1) (place + lo (getD cur ((i + k) * 2) 0)) (first + lo (getD cur ((i + k) * 2 + 1) 0)) next
     unfolding p
     renumber-next next e =
         let L : List ℕ = drop (i * 2) d in
-        let X : ℕ = pack place (getD cur ((i + k) * 2) 0 % 4294967296) in
-        let Y : ℕ = pack first (getD cur ((i + k) * 2 + 1) 0 % 4294967296) in
+        let X : ℕ = pack place (lo (getD cur ((i + k) * 2) 0)) in
+        let Y : ℕ = pack first (lo (getD cur ((i + k) * 2 + 1) 0)) in
         let j : ℕ = (i + k) * 2 in
         let q : (i + suc k) * 2 ≡ j + 2 = omega arith in
         let tk : take j cur ≡ p = ap (take j) split ∙ take-at p (drop j d) j lp in
@@ -220,10 +222,10 @@ module _ (d : List ℕ) (n f t pos at : ℕ) (hf : f ≤ n) (hn : n * 2 ≤ leng
   moved-olds : oldsOf (n - f) (drop (t * 2) d1) ≡ drop f (oldsOf n d)
   moved-olds = ap (λ (l : List ℕ). oldsOf (n - f) (drop (t * 2) l)) is ∙ pasted-olds d (n - f) f t room-f ht ∙ olds-from n f d
 
-  pub moved-sizes : pos + oldSizes (drop f (oldsOf n d)) < 4294967296 → pos + oldSizes (oldsOf (n - f) (drop (t * 2) d1)) < 4294967296
+  pub moved-sizes : pos + oldSizes (drop f (oldsOf n d)) < halfLimit → pos + oldSizes (oldsOf (n - f) (drop (t * 2) d1)) < halfLimit
   moved-sizes h = rw moved-olds h
 
-  pub moved-words : at + oldWords (drop f (oldsOf n d)) < 4294967296 → at + oldWords (oldsOf (n - f) (drop (t * 2) d1)) < 4294967296
+  pub moved-words : at + oldWords (drop f (oldsOf n d)) < halfLimit → at + oldWords (oldsOf (n - f) (drop (t * 2) d1)) < halfLimit
   moved-words h = rw moved-olds h
 
   pub moved-is : (d2 : List ℕ) → d2 ≡ after d1 t pos at (n - f) → d2 ≡ take (t * 2) d ++ (moved (n - f) pos at (drop (f * 2) d) ++ drop ((t + (n - f)) * 2) d)

@@ -1,15 +1,17 @@
 -- What a reading leaves, told for code that works in place: what is kept in front stays where it is, what was read stands behind it, and
 -- what is kept behind has moved as one stretch.
+-- By induction on the pieces, with the parts cut at their seams.
 -- Assumes nothing.
 use mathlib.Core.Path.{_≡_, refl, sym, ap, _∙_}
 use mathlib.Core.List.{List, [], _∷_, _++_, append-nil, append-assoc}
-use Prim.Native.Nat.{ℕ, zero, suc, _+_, _-_, _*_, _/_, _%_, _≤_, _<_}
+use Prim.Native.Nat.{ℕ, zero, suc, _+_, _-_, _*_, _≤_, _<_}
 use native.Mathlib.Nat.{add-zero, zero-add, add-assoc, div-add-mod'}
 use native.Mathlib.Omega.{arith}
 use lib.ListN.{length, getD, take, drop, length-append, length-drop, drop-of-length-le}
 use lib.Seq.{drop-drop, take-add, length-take-le}
-use Rattle.records.specs.Words.{pack}
-use Rattle.records.specs.Pieces.{Run, done, item, mapRun, Source, fresh, wordsOf, isFresh, sumRun, before, Old, old, oldSizes, oldWords, allWords, entries, countRun, pad, fine, refused, no-at, count, left, leave, again-left, leaveAgain}
+use Rattle.records.specs.Words.{pack, hi, lo}
+use Rattle.records.specs.Limits.{halfLimit}
+use Rattle.records.specs.Pieces.{Run, done, item, mapRun, Source, fresh, sourceWords, isFresh, sumRun, before, Old, old, oldSizes, oldWords, allWords, entries, countRun, pad, fine, refused, refusedAt, count, left, leave, again-left, leaveAgain}
 use Rattle.directory.specs.Olds.{oldsOf, moved, Joined, Chained}
 use Rattle.directory.specs.Place.{fullThen, readThen, readSize, readWords, readEntries, restLeft, wordsLeft, entriesLeft}
 use Rattle.directory.proofs.Chain.{drop-entry}
@@ -17,8 +19,8 @@ use Rattle.directory.proofs.Moved.{moved-more}
 use Rattle.directory.proofs.Links.{sizeAt, firstAt, countAt, olds-next, olds-take, olds-length, olds-drop, words-step, words-split}
 
 -- ---- pieces that were read
-pub full-map : (ws : List ℕ) (fs : List (ℕ × List ℕ)) (r : Run Source) → mapRun (wordsOf ws) (readThen fs r) ≡ fullThen fs (mapRun (wordsOf ws) r)
-unfolding mapRun wordsOf readThen fullThen
+pub full-map : (ws : List ℕ) (fs : List (ℕ × List ℕ)) (r : Run Source) → mapRun (sourceWords ws) (readThen fs r) ≡ fullThen fs (mapRun (sourceWords ws) r)
+unfolding mapRun sourceWords readThen fullThen
 full-map ws [] r = refl
 full-map ws (x ∷ fs) r = ap (item (x .0) (x .1)) (full-map ws fs r)
 
@@ -101,25 +103,25 @@ lies-take W at (suc k) (old e f n ∷ os) l = (l .0, l .1, lies-take W (at + n) 
 
 -- Kept pieces are one stretch of the older words.
 pub stretch : (ws : List ℕ) (at : ℕ) (os : List Old) (r : Run Source) → Lies (length ws) at os
-    → allWords (mapRun (wordsOf ws) (before os r)) ≡ take (oldWords os) (drop at ws) ++ allWords (mapRun (wordsOf ws) r)
-unfolding allWords mapRun wordsOf before oldWords
+    → allWords (mapRun (sourceWords ws) (before os r)) ≡ take (oldWords os) (drop at ws) ++ allWords (mapRun (sourceWords ws) r)
+unfolding allWords mapRun sourceWords before oldWords
 stretch ws at [] r l = refl
 stretch ws at (old e f n ∷ os) r l =
-    let ih : allWords (mapRun (wordsOf ws) (before os r)) ≡ take (oldWords os) (drop (at + n) ws) ++ allWords (mapRun (wordsOf ws) r) = stretch ws (at + n) os r (l .2) in
-    rw (l .0, take-add n (oldWords os) (drop at ws), drop-drop n at ws, append-assoc (take n (drop at ws)) (take (oldWords os) (drop (at + n) ws)) (allWords (mapRun (wordsOf ws) r)))
+    let ih : allWords (mapRun (sourceWords ws) (before os r)) ≡ take (oldWords os) (drop (at + n) ws) ++ allWords (mapRun (sourceWords ws) r) = stretch ws (at + n) os r (l .2) in
+    rw (l .0, take-add n (oldWords os) (drop at ws), drop-drop n at ws, append-assoc (take n (drop at ws)) (take (oldWords os) (drop (at + n) ws)) (allWords (mapRun (sourceWords ws) r)))
     (ap {B = List ℕ} (λ t. take n (drop at ws) ++ t) ih)
 
 -- Their entries, wherever they come to stand, are those that the directory has, moved.
 pub old-entries : (ws : List ℕ) (n pos at w : ℕ) (dir : List ℕ) (r : Run Source) → n * 2 ≤ length dir → Lies (length ws) w (oldsOf n dir)
-    → entries pos at (mapRun (wordsOf ws) (before (oldsOf n dir) r)) ≡ moved n pos at dir ++ entries (pos + oldSizes (oldsOf n dir)) (at + oldWords (oldsOf n dir)) (mapRun (wordsOf ws) r)
-unfolding entries mapRun wordsOf before oldsOf oldSizes oldWords moved
+    → entries pos at (mapRun (sourceWords ws) (before (oldsOf n dir) r)) ≡ moved n pos at dir ++ entries (pos + oldSizes (oldsOf n dir)) (at + oldWords (oldsOf n dir)) (mapRun (sourceWords ws) r)
+unfolding entries mapRun sourceWords before oldsOf oldSizes oldWords moved
 old-entries ws zero pos at w dir r h l = rw (add-zero pos, add-zero at)
 old-entries ws (suc n) pos at w [] r h l = absurd (omega arith)
 old-entries ws (suc n) pos at w (x ∷ []) r h l = absurd (omega arith)
 old-entries ws (suc n) pos at w (x ∷ y ∷ dir) r h l =
-    let e : ℕ = x % 4294967296 in
-    let m : ℕ = y % 4294967296 in
-    let f : ℕ = y / 4294967296 in
+    let e : ℕ = lo x in
+    let m : ℕ = lo y in
+    let f : ℕ = hi y in
     let lf : f ≡ w = l .0 in
     let lw : w + m ≤ length ws = l .1 in
     let lm : length (take m (drop f ws)) ≡ m = length-take-le m (drop f ws) (omega (arith, length-drop f ws)) in
@@ -142,9 +144,9 @@ old-fresh [] = refl
 old-fresh (old e f n ∷ os) = omega (arith, old-fresh os)
 
 -- Where they stand already, nothing moves.
-whole-word : (x : ℕ) → pack (x / 4294967296) (x % 4294967296) ≡ x
+whole-word : (x : ℕ) → pack (hi x) (lo x) ≡ x
 unfolding pack
-whole-word x = div-add-mod' x 4294967296
+whole-word x = div-add-mod' x halfLimit
 
 take-entry : (dir : List ℕ) (k : ℕ) → suc k * 2 ≤ length dir → take (suc k * 2) dir ≡ take (k * 2) dir ++ (getD dir (k * 2) 0 ∷ getD dir (k * 2 + 1) 0 ∷ [])
 take-entry dir k h =
@@ -155,20 +157,20 @@ moved-none : (n : ℕ) (dir : List ℕ) → Joined n dir → (k : ℕ) → k ≤
 unfolding moved
 moved-none n dir g zero h = refl
 moved-none n dir g (suc k) h =
-    let sx : oldSizes (oldsOf k dir) ≡ getD dir (k * 2) 0 / 4294967296 = ap oldSizes (sym (olds-take n k dir (omega arith))) ∙ sym (g .start k h) in
-    let sy : oldWords (oldsOf k dir) ≡ getD dir (k * 2 + 1) 0 / 4294967296 = ap oldWords (sym (olds-take n k dir (omega arith))) ∙ sym (g .first k h) in
+    let sx : oldSizes (oldsOf k dir) ≡ hi (getD dir (k * 2) 0) = ap oldSizes (sym (olds-take n k dir (omega arith))) ∙ sym (g .start k h) in
+    let sy : oldWords (oldsOf k dir) ≡ hi (getD dir (k * 2 + 1) 0) = ap oldWords (sym (olds-take n k dir (omega arith))) ∙ sym (g .first k h) in
     moved-more k 0 0 dir (omega (arith, g .inside))
     ∙ rw (zero-add (oldSizes (oldsOf k dir)), zero-add (oldWords (oldsOf k dir)), sx, sy, whole-word (getD dir (k * 2) 0), whole-word (getD dir (k * 2 + 1) 0), moved-none n dir g k (omega arith))
     (sym (take-entry dir k (omega (arith, g .inside))))
 
 -- ---- what re-reading leaves, where question 22 does not refuse
 module _ (T : ℕ) (ws : List ℕ) (n : ℕ) (dir : List ℕ) (c : Chained T (length ws) n dir) where
-  pub front-words : (k : ℕ) (r : Run Source) → allWords (mapRun (wordsOf ws) (before (take k (oldsOf n dir)) r)) ≡ take (oldWords (take k (oldsOf n dir))) ws ++ allWords (mapRun (wordsOf ws) r)
+  pub front-words : (k : ℕ) (r : Run Source) → allWords (mapRun (sourceWords ws) (before (take k (oldsOf n dir)) r)) ≡ take (oldWords (take k (oldsOf n dir))) ws ++ allWords (mapRun (sourceWords ws) r)
   unfolding oldWords
   front-words k r = stretch ws 0 (take k (oldsOf n dir)) r (lies-take (length ws) 0 k (oldsOf n dir) (lies (length ws) n dir T c 0 (omega arith)))
 
   pub front-entries : (k : ℕ) (r : Run Source) → k ≤ n
-      → entries 0 0 (mapRun (wordsOf ws) (before (take k (oldsOf n dir)) r)) ≡ take (k * 2) dir ++ entries (oldSizes (take k (oldsOf n dir))) (oldWords (take k (oldsOf n dir))) (mapRun (wordsOf ws) r)
+      → entries 0 0 (mapRun (sourceWords ws) (before (take k (oldsOf n dir)) r)) ≡ take (k * 2) dir ++ entries (oldSizes (take k (oldsOf n dir))) (oldWords (take k (oldsOf n dir))) (mapRun (sourceWords ws) r)
   unfolding oldWords
   front-entries k r h =
       let t : take k (oldsOf n dir) ≡ oldsOf k dir = olds-take n k dir h in
@@ -177,13 +179,13 @@ module _ (T : ℕ) (ws : List ℕ) (n : ℕ) (dir : List ℕ) (c : Chained T (le
       (old-entries ws k 0 0 0 dir r (omega (arith, c .joined .inside)) l
       ∙ rw (zero-add (oldSizes (oldsOf k dir)), zero-add (oldWords (oldsOf k dir)), moved-none n dir (c .joined) k h))
 
-  pub behind-words : (j : ℕ) → j ≤ n → allWords (mapRun (wordsOf ws) (before (drop j (oldsOf n dir)) done)) ≡ take (oldWords (drop j (oldsOf n dir))) (drop (oldWords (take j (oldsOf n dir))) ws)
+  pub behind-words : (j : ℕ) → j ≤ n → allWords (mapRun (sourceWords ws) (before (drop j (oldsOf n dir)) done)) ≡ take (oldWords (drop j (oldsOf n dir))) (drop (oldWords (take j (oldsOf n dir))) ws)
   unfolding allWords mapRun
   behind-words j h =
       stretch ws (oldWords (take j (oldsOf n dir))) (drop j (oldsOf n dir)) done (lies (length ws) n dir T c j h)
       ∙ append-nil (take (oldWords (drop j (oldsOf n dir))) (drop (oldWords (take j (oldsOf n dir))) ws))
 
-  pub behind-entries : (j pos at : ℕ) → j ≤ n → entries pos at (mapRun (wordsOf ws) (before (drop j (oldsOf n dir)) done)) ≡ moved (n - j) pos at (drop (j * 2) dir)
+  pub behind-entries : (j pos at : ℕ) → j ≤ n → entries pos at (mapRun (sourceWords ws) (before (drop j (oldsOf n dir)) done)) ≡ moved (n - j) pos at (drop (j * 2) dir)
   unfolding entries mapRun
   behind-entries j pos at h =
       let d : drop j (oldsOf n dir) ≡ oldsOf (n - j) (drop (j * 2) dir) = olds-drop n j dir in
@@ -193,16 +195,16 @@ module _ (T : ℕ) (ws : List ℕ) (n : ℕ) (dir : List ℕ) (c : Chained T (le
       ∙ append-nil (moved (n - j) pos at (drop (j * 2) dir)))
 
   module _ (k j : ℕ) (hk : k ≤ n) (hj : j ≤ n) (fs : List (ℕ × List ℕ)) where
-    pub words-left : allWords (mapRun (wordsOf ws) (before (take k (oldsOf n dir)) (restLeft n dir j fs))) ≡ wordsLeft ws n dir k j fs
+    pub words-left : allWords (mapRun (sourceWords ws) (before (take k (oldsOf n dir)) (restLeft n dir j fs))) ≡ wordsLeft ws n dir k j fs
     unfolding restLeft wordsLeft
     words-left =
         front-words k (readThen fs (before (drop j (oldsOf n dir)) done))
         ∙ ap {B = List ℕ} (λ t. take (oldWords (take k (oldsOf n dir))) ws ++ t)
         (ap allWords (full-map ws fs (before (drop j (oldsOf n dir)) done))
-        ∙ full-words fs (mapRun (wordsOf ws) (before (drop j (oldsOf n dir)) done))
+        ∙ full-words fs (mapRun (sourceWords ws) (before (drop j (oldsOf n dir)) done))
         ∙ ap {B = List ℕ} (λ t. readWords fs ++ t) (behind-words j hj))
 
-    pub entries-left : entries 0 0 (mapRun (wordsOf ws) (before (take k (oldsOf n dir)) (restLeft n dir j fs))) ≡ entriesLeft n dir k j fs
+    pub entries-left : entries 0 0 (mapRun (sourceWords ws) (before (take k (oldsOf n dir)) (restLeft n dir j fs))) ≡ entriesLeft n dir k j fs
     unfolding restLeft entriesLeft
     entries-left =
         let pos : ℕ = oldSizes (take k (oldsOf n dir)) in
@@ -210,17 +212,17 @@ module _ (T : ℕ) (ws : List ℕ) (n : ℕ) (dir : List ℕ) (c : Chained T (le
         front-entries k (readThen fs (before (drop j (oldsOf n dir)) done)) hk
         ∙ ap {B = List ℕ} (λ t. take (k * 2) dir ++ t)
         (ap (entries pos at) (full-map ws fs (before (drop j (oldsOf n dir)) done))
-        ∙ full-entries pos at fs (mapRun (wordsOf ws) (before (drop j (oldsOf n dir)) done))
+        ∙ full-entries pos at fs (mapRun (sourceWords ws) (before (drop j (oldsOf n dir)) done))
         ∙ ap {B = List ℕ} (λ t. readEntries pos at fs ++ t) (behind-entries j (pos + readSize fs) (at + length (readWords fs)) hj))
 
-    pub count-left : countRun (mapRun (wordsOf ws) (before (take k (oldsOf n dir)) (restLeft n dir j fs))) ≡ k + length fs + (n - j)
+    pub count-left : countRun (mapRun (sourceWords ws) (before (take k (oldsOf n dir)) (restLeft n dir j fs))) ≡ k + length fs + (n - j)
     unfolding restLeft countRun mapRun
     count-left =
         let l : length (oldsOf n dir) ≡ n = olds-length n dir (c .joined .inside) in
         let lk : length (take k (oldsOf n dir)) ≡ k = length-take-le k (oldsOf n dir) (omega arith) in
         let lj : length (drop j (oldsOf n dir)) ≡ n - j = rw (length-drop j (oldsOf n dir), l) in
-        old-count (wordsOf ws) (take k (oldsOf n dir)) (readThen fs (before (drop j (oldsOf n dir)) done))
-        ∙ rw (lk, full-map ws fs (before (drop j (oldsOf n dir)) done), full-count fs (mapRun (wordsOf ws) (before (drop j (oldsOf n dir)) done)), old-count (wordsOf ws) (drop j (oldsOf n dir)) done, lj, add-zero (n - j)) (sym (add-assoc k (length fs) (n - j)))
+        old-count (sourceWords ws) (take k (oldsOf n dir)) (readThen fs (before (drop j (oldsOf n dir)) done))
+        ∙ rw (lk, full-map ws fs (before (drop j (oldsOf n dir)) done), full-count fs (mapRun (sourceWords ws) (before (drop j (oldsOf n dir)) done)), old-count (sourceWords ws) (drop j (oldsOf n dir)) done, lj, add-zero (n - j)) (sym (add-assoc k (length fs) (n - j)))
 
     -- what is reported as read
     pub read-left : sumRun (mapRun isFresh (restLeft n dir j fs)) ≡ length fs
@@ -235,7 +237,7 @@ module _ (T : ℕ) (ws : List ℕ) (n : ℕ) (dir : List ℕ) (c : Chained T (le
     left-fine rest e = rw (e, words-left, entries-left, count-left, read-left)
 
 -- a refused one
-pub left-refused : (ws : List ℕ) (d q p k : ℕ) (r all : Run Source) → leaveAgain ws d (refused q p) k r all ≡ again-left (left (no-at q p) (pad (length ws) []) (pad d [])) 0 0
+pub left-refused : (ws : List ℕ) (d q p k : ℕ) (r all : Run Source) → leaveAgain ws d (refused q p) k r all ≡ again-left (left (refusedAt q p) (pad (length ws) []) (pad d [])) 0 0
 unfolding leaveAgain leave
 left-refused ws d q p k r all = refl
 
@@ -244,6 +246,6 @@ pub full-fine : (W D : ℕ) (fs : List (ℕ × List ℕ)) (r : Run (List ℕ)) �
 unfolding leave allWords entries countRun
 full-fine W D fs r e = rw (e, full-count fs done, full-words fs done, full-entries 0 0 fs done, append-nil (readWords fs), append-nil (readEntries 0 0 fs), add-zero (length fs))
 
-pub full-refused : (W D q p : ℕ) (r : Run (List ℕ)) → leave W D (refused q p) r ≡ left (no-at q p) (pad W []) (pad D [])
+pub full-refused : (W D q p : ℕ) (r : Run (List ℕ)) → leave W D (refused q p) r ≡ left (refusedAt q p) (pad W []) (pad D [])
 unfolding leave
 full-refused W D q p r = refl

@@ -1,4 +1,5 @@
 -- Stores into a list, one element at a time.
+-- By induction on the list: a store changes one element.
 -- Assumes nothing.
 use mathlib.Core.Path.{_≡_, sym, ap, _∙_}
 use mathlib.Core.List.{List, [], _∷_, _++_, append-assoc, append-nil}

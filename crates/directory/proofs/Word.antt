@@ -7,6 +7,7 @@ use native.Mathlib.Omega.{arith}
 use lib.Dec.{T, eqb}
 use borrow.Author.Tests.{eqb-true, eqb-false}
 use Rattle.program.specs.Class.{classOf, isWord}
+use Rattle.records.specs.Words.{lo}
 
 both : Bool → Bool → Bool
 both true b = b

@@ -4,24 +4,21 @@ use mathlib.Core.List.{List}
 use mathlib.Core.Bool.{true, false, _&&_}
 use Prim.Native.Nat.{ℕ, _+_, _*_}
 use lib.Dec.{leb, ltb}
-use Rattle.records.specs.Pieces.{fine, refused, Old}
+use Rattle.records.specs.Questions.{qWords, qEntries}
+use Rattle.records.specs.Limits.{halfLimit}
+use Rattle.records.specs.Pieces.{refused, Old}
 use Rattle.records.specs.Pieces as pieces
-use Rattle.directory.specs.declared.text.Verdict.{Verdict}
-use Rattle.directory.specs.declared.text.Verdict.the-variants.{Fine, Refused}
+use Rattle.texts.specs.declared.Verdict.{Verdict}
 use Rattle.directory.specs.Olds.{FoundAt, FoundNot, JoinsAt, JoinsNot}
 use Rattle.directory.specs.declared.older.Found.{Found}
 use Rattle.directory.specs.declared.older.Found.the-variants.{At, Nothing}
 use Rattle.directory.specs.declared.rooms.Room.{Room}
 use Rattle.directory.specs.declared.rooms.Room.the-variants.{Fits, Words, Entry}
 
-abbrev pub verdict : Verdict → pieces.Verdict
-verdict Fine = fine
-verdict (Refused q p) = refused q p
-
 -- Questions 20 and 21 of one piece.
-unfoldable pub roomOf : (words dir i at n : ℕ) → Room
-roomOf words dir i at n =
-    elim (leb (at + n) words && ltb (at + n) 4294967296) [
+unfoldable pub roomOf : (words dir i word n : ℕ) → Room
+roomOf words dir i word n =
+    elim (leb (word + n) words && ltb (word + n) halfLimit) [
       | true ↦ elim (leb (i * 2 + 2) dir) [ true ↦ Fits | false ↦ Entry ]
       | false ↦ Words
     ]
@@ -29,8 +26,8 @@ roomOf words dir i at n =
 -- What follows in a verdict: a refusal at the piece's end, or what is asked next.
 unfoldable pub afterRoom : Room → ℕ → pieces.Verdict → pieces.Verdict
 afterRoom Fits place v = v
-afterRoom Words place v = refused 20 place
-afterRoom Entry place v = refused 21 place
+afterRoom Words place v = refused qWords place
+afterRoom Entry place v = refused qEntries place
 
 -- Where an old piece starts.
 abbrev pub Finds : List Old → ℕ → Found → Type 0

@@ -4,11 +4,12 @@ use mathlib.Core.Path.{_≡_}
 use mathlib.Core.Bool.{Bool, true, false}
 use mathlib.Core.Option.{Option, none, some}
 use mathlib.Core.List.{List, [], _∷_, _++_}
-use Prim.Native.Nat.{ℕ, zero, suc, _+_, _-_, _*_, _/_, _%_, _≤_, _<_}
+use Prim.Native.Nat.{ℕ, zero, suc, _+_, _-_, _*_, _≤_, _<_}
 use lib.ListN.{length, getD, take, drop}
 use lib.Seq.{paste}
 use Rattle.program.specs.Class.{isWord}
-use Rattle.records.specs.Words.{pack}
+use Rattle.records.specs.Words.{pack, hi, lo}
+use Rattle.records.specs.Limits.{halfLimit}
 use Rattle.records.specs.Pieces.{Old, old, olds, oldSizes, oldWords, keptFront, from, fromBlocks, joins}
 
 -- Question 22 as a truth value.
@@ -21,13 +22,13 @@ unfoldable pub oldsOf : ℕ → List ℕ → List Old
 oldsOf zero dir = []
 oldsOf (suc n) [] = []
 oldsOf (suc n) (x ∷ []) = []
-oldsOf (suc n) (x ∷ y ∷ dir) = old (x % 4294967296) (y / 4294967296) (y % 4294967296) ∷ oldsOf n dir
+oldsOf (suc n) (x ∷ y ∷ dir) = old (lo x) (hi y) (lo y) ∷ oldsOf n dir
 
 -- The n entries stand within the array, and each starts, in text and words, where the last ended.
 pub record Joined (n : ℕ) (dir : List ℕ) : Type 0 where
   pub inside : n * 2 ≤ length dir
-  pub start : (m : ℕ) → m < n → getD dir (m * 2) 0 / 4294967296 ≡ oldSizes (take m (oldsOf n dir))
-  pub first : (m : ℕ) → m < n → getD dir (m * 2 + 1) 0 / 4294967296 ≡ oldWords (take m (oldsOf n dir))
+  pub start : (m : ℕ) → m < n → hi (getD dir (m * 2) 0) ≡ oldSizes (take m (oldsOf n dir))
+  pub first : (m : ℕ) → m < n → hi (getD dir (m * 2 + 1) 0) ≡ oldWords (take m (oldsOf n dir))
 
 -- What question 22 grants where it does not refuse.
 pub record Chained (text words n : ℕ) (dir : List ℕ) : Type 0 where
@@ -45,10 +46,10 @@ pub record WordEnd (s : List ℕ) (from r : ℕ) : Type 0 where
   pub stops : r < length s → isWord (getD s r 0) ≡ false
 
 -- So many of the pieces os are kept in front, where s is common to both texts, and there they end.
-pub record FrontIs (s : List ℕ) (os : List Old) (count pos at : ℕ) : Type 0 where
+pub record FrontIs (s : List ℕ) (os : List Old) (count pos word : ℕ) : Type 0 where
   pub kept : count ≡ keptFront s os
   pub size : pos ≡ oldSizes (take count os)
-  pub words : at ≡ oldWords (take count os)
+  pub words : word ≡ oldWords (take count os)
 
 -- Of the pieces os, those before j, but for the head, start before t.
 pub record Passed (os : List Old) (j t : ℕ) : Type 0 where
@@ -79,21 +80,21 @@ pub record JoinsNot (os : List Old) (c olen left j : ℕ) : Type 0 where
   pub inside : j ≤ length os
   pub passed : Passed os j (olen - left)
 
--- The first n entries of a directory, moved so that they start at pos and at word `at`.
-unfoldable pub moved : (n pos at : ℕ) → List ℕ → List ℕ
-moved zero pos at dir = []
-moved (suc n) pos at [] = []
-moved (suc n) pos at (x ∷ []) = []
-moved (suc n) pos at (x ∷ y ∷ dir) = pack pos (x % 4294967296) ∷ pack at (y % 4294967296) ∷ moved n (pos + x % 4294967296) (at + y % 4294967296) dir
+-- The first n entries of a directory, moved so that they start at pos and at `word`.
+unfoldable pub moved : (n pos word : ℕ) → List ℕ → List ℕ
+moved zero pos word dir = []
+moved (suc n) pos word [] = []
+moved (suc n) pos word (x ∷ []) = []
+moved (suc n) pos word (x ∷ y ∷ dir) = pack pos (lo x) ∷ pack word (lo y) ∷ moved n (pos + lo x) (word + lo y) dir
 
--- Old pieces, if any, have room as pieces i and so on, with their words from `at` on.
-pub record RoomFor (W D i at : ℕ) (os : List Old) : Type 0 where
-  pub in-words : at + oldWords os ≤ W
-  pub small : 0 < length os → at + oldWords os < 4294967296
+-- Old pieces, if any, have room as pieces i and so on, with their words from `word` on.
+pub record RoomFor (W D i word : ℕ) (os : List Old) : Type 0 where
+  pub in-words : word + oldWords os ≤ W
+  pub small : 0 < length os → word + oldWords os < halfLimit
   pub entries : (i + length os) * 2 ≤ D
 
--- The old pieces from number f on have become pieces t and so on, from pos and from word `at` on; r is the end of their words.
-pub record KeptBehind (ws dir : List ℕ) (n f t pos at r : ℕ) (ws2 dir2 : List ℕ) : Type 0 where
-  pub end : r ≡ at + oldWords (drop f (oldsOf n dir))
-  pub words : ws2 ≡ paste ws at (drop (oldWords (take f (oldsOf n dir))) ws) (oldWords (drop f (oldsOf n dir)))
-  pub entries : dir2 ≡ take (t * 2) dir ++ (moved (n - f) pos at (drop (f * 2) dir) ++ drop ((t + (n - f)) * 2) dir)
+-- The old pieces from number f on have become pieces t and so on, from pos and from `word` on; r is the end of their words.
+pub record KeptBehind (ws dir : List ℕ) (n f t pos word r : ℕ) (ws2 dir2 : List ℕ) : Type 0 where
+  pub end : r ≡ word + oldWords (drop f (oldsOf n dir))
+  pub words : ws2 ≡ paste ws word (drop (oldWords (take f (oldsOf n dir))) ws) (oldWords (drop f (oldsOf n dir)))
+  pub entries : dir2 ≡ take (t * 2) dir ++ (moved (n - f) pos word (drop (f * 2) dir) ++ drop ((t + (n - f)) * 2) dir)

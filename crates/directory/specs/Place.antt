@@ -27,10 +27,10 @@ unfoldable pub readWords : List (ℕ × List ℕ) → List ℕ
 readWords [] = []
 readWords (x ∷ xs) = x .1 ++ readWords xs
 
--- their entries, where they start at pos and at word `at`
-unfoldable pub readEntries : (pos at : ℕ) → List (ℕ × List ℕ) → List ℕ
-readEntries pos at [] = []
-readEntries pos at (x ∷ xs) = pack pos (x .0) ∷ pack at (length (x .1)) ∷ readEntries (pos + x .0) (at + length (x .1)) xs
+-- their entries, where they start at pos and at `word`
+unfoldable pub readEntries : (pos word : ℕ) → List (ℕ × List ℕ) → List ℕ
+readEntries pos word [] = []
+readEntries pos word (x ∷ xs) = pack pos (x .0) ∷ pack word (length (x .1)) ∷ readEntries (pos + x .0) (word + length (x .1)) xs
 
 -- The first n pieces at the start of s, as far as they go.
 unfoldable pub readsFrom : (List ℕ → BlockRead) → ℕ → List ℕ → List (ℕ × List ℕ)
@@ -61,15 +61,15 @@ entriesLeft n dir k j fs =
     ++ moved (n - j) (oldSizes (take k (oldsOf n dir)) + readSize fs) (oldWords (take k (oldsOf n dir)) + length (readWords fs)) (drop (j * 2) dir))
 
 -- All questions are answered and none refuses: behind the k pieces kept in front, which end at k₁ in the text and at word k₂, `rest` has
--- pieces read, which end as piece i at pos and at word `at`, and then the old pieces from number j on, which have room, and end inside
+-- pieces read, which end as piece i at pos and at `word`, and then the old pieces from number j on, which have room, and end inside
 -- the text of that length.
-pub record Settled (W D len : ℕ) (v : Verdict) (rest : Run Source) (n : ℕ) (dir : List ℕ) (k k₁ k₂ i pos at j : ℕ) : Type 0 where
+pub record Settled (W D len : ℕ) (v : Verdict) (rest : Run Source) (n : ℕ) (dir : List ℕ) (k k₁ k₂ i pos word j : ℕ) : Type 0 where
   pub fs : List (ℕ × List ℕ)
   pub is : v ≡ fine
   pub run : rest ≡ restLeft n dir j fs
   pub number : i ≡ k + length fs
   pub place : pos ≡ k₁ + readSize fs
-  pub first : at ≡ k₂ + length (readWords fs)
+  pub first : word ≡ k₂ + length (readWords fs)
   pub behind : j ≤ n
-  pub room : RoomFor W D i at (drop j (oldsOf n dir))
+  pub room : RoomFor W D i word (drop j (oldsOf n dir))
   pub ends : pos + oldSizes (drop j (oldsOf n dir)) ≤ len

@@ -1,10 +1,13 @@
 // Zeros, entries, and moves within a lent array.
+use crate::pieces::Size;
+use crate::pieces::Spot;
 ghost use mathlib.Core.Path.{_≡_};
 ghost use mathlib.Core.List.{_++_};
 ghost use Prim.Native.Nat.{_+_, _-_, _*_, _≤_, _<_};
 ghost use lib.ListN.{length, take, drop, replicate, set};
 ghost use lib.Seq.{paste};
 ghost use Rattle.records.specs.Pieces.{oldSizes, oldWords};
+ghost use Rattle.records.specs.Limits.{halfLimit};
 ghost use Rattle.records.specs.Words.{pack};
 ghost use Rattle.directory.specs.Olds.{oldsOf, moved};
 
@@ -19,14 +22,15 @@ pub fn clear(words: &mut [u64], from: usize)
     }
 }
 
-// "A directory entry is two words: start 32, length 32; first word 32, word count 32." Entry i, where question 21 was asked.
-pub fn put_entry(directory: &mut [u64], i: usize, pos: usize, e: usize, at: usize, n: usize)
-    requires { ⌜ i * 2 + 2 ≤ length (now directory) ⌝ }
-    requires { ⌜ (pos < 4294967296) × (e < 4294967296) × (at < 4294967296) × (n < 4294967296) ⌝ }
-    ensures { λ r. ⌜ now (directory .exit) ≡ set (set (now (directory .entry)) (i * 2) (pack pos e)) (i * 2 + 1) (pack at n) ⌝ }
+// "A directory entry is two words: start 32, length 32; first word 32, word count 32." Of the piece that stands there, where question 21 was asked.
+pub fn put_entry(directory: &mut [u64], spot: Spot, size: Size)
+    requires { ⌜ spot .number * 2 + 2 ≤ length (now directory) ⌝ }
+    requires { ⌜ (spot .pos < halfLimit) × (size .bytes < halfLimit) × (spot .word < halfLimit) × (size .words < halfLimit) ⌝ }
+    ensures { λ r. ⌜ now (directory .exit) ≡ set (set (now (directory .entry)) (spot .number * 2) (pack (spot .pos) (size .bytes))) (spot .number * 2 + 1) (pack (spot .word) (size .words)) ⌝ }
 {
-    directory[i * 2] = (pos * 4294967296 + e) as u64;
-    directory[i * 2 + 1] = (at * 4294967296 + n) as u64;
+    let i = spot.number * 2;
+    directory[i] = spot.pos as u64 * records::HALF + size.bytes as u64;
+    directory[i + 1] = spot.word as u64 * records::HALF + size.words as u64;
 }
 
 // The n words at `from` come to stand at `to`, which is not behind it.
@@ -70,39 +74,33 @@ pub fn move_words(words: &mut [u64], from: usize, to: usize, n: usize)
     }
 }
 
-// The n entries from number i on come to start at pos, and their words at `at`, one behind the other.
-fn renumber(directory: &mut [u64], i: usize, n: usize, pos: usize, at: usize)
-    requires { ⌜ (i + n) * 2 ≤ length (now directory) ⌝ }
-    requires { ⌜ (pos + oldSizes (oldsOf n (drop (i * 2) (now directory))) < 4294967296) × (at + oldWords (oldsOf n (drop (i * 2) (now directory))) < 4294967296) ⌝ }
-    ensures { λ r. ⌜ now (directory .exit) ≡ take (i * 2) (now (directory .entry)) ++ (moved n pos at (drop (i * 2) (now (directory .entry))) ++ drop ((i + n) * 2) (now (directory .entry))) ⌝ }
+// The n entries there come to start there in text and words, one behind the other.
+fn renumber(directory: &mut [u64], spot: Spot, n: usize)
+    requires { ⌜ (spot .number + n) * 2 ≤ length (now directory) ⌝ }
+    requires { ⌜ (spot .pos + oldSizes (oldsOf n (drop (spot .number * 2) (now directory))) < halfLimit) × (spot .word + oldWords (oldsOf n (drop (spot .number * 2) (now directory))) < halfLimit) ⌝ }
+    ensures { λ r. ⌜ now (directory .exit) ≡ take (spot .number * 2) (now (directory .entry)) ++ (moved n (spot .pos) (spot .word) (drop (spot .number * 2) (now (directory .entry))) ++ drop ((spot .number + n) * 2) (now (directory .entry))) ⌝ }
 {
     let mut k: usize = 0;
-    let mut place = pos;
-    let mut first = at;
+    let mut pos = spot.pos;
+    let mut word = spot.word;
     while k < n {
-        let e = (directory[(i + k) * 2] % 4294967296) as usize;
-        let m = (directory[(i + k) * 2 + 1] % 4294967296) as usize;
-        put_entry(directory, i + k, place, e, first, m);
-        place += e;
-        first += m;
+        let number = spot.number + k;
+        let bytes = (directory[number * 2] % records::HALF) as usize;
+        let words = (directory[number * 2 + 1] % records::HALF) as usize;
+        put_entry(directory, Spot { number, pos, word }, Size { bytes, words });
+        pos += bytes;
+        word += words;
         k += 1;
     }
 }
 
-// The old entries from number `from` on come to stand from number `to` on, and start at pos and at word `at`.
-pub fn move_entries(
-    directory: &mut [u64],
-    entries: usize,
-    from: usize,
-    to: usize,
-    pos: usize,
-    at: usize,
-)
-    requires { ⌜ (from ≤ entries) × (entries * 2 ≤ length (now directory)) × ((to + (entries - from)) * 2 ≤ length (now directory)) ⌝ }
-    requires { ⌜ (pos + oldSizes (drop from (oldsOf entries (now directory))) < 4294967296) × (at + oldWords (drop from (oldsOf entries (now directory))) < 4294967296) ⌝ }
-    ensures { λ r. ⌜ now (directory .exit) ≡ take (to * 2) (now (directory .entry)) ++ (moved (entries - from) pos at (drop (from * 2) (now (directory .entry))) ++ drop ((to + (entries - from)) * 2) (now (directory .entry))) ⌝ }
+// The old entries from number `from` on come to stand there.
+pub fn move_entries(directory: &mut [u64], entries: usize, from: usize, spot: Spot)
+    requires { ⌜ (from ≤ entries) × (entries * 2 ≤ length (now directory)) × ((spot .number + (entries - from)) * 2 ≤ length (now directory)) ⌝ }
+    requires { ⌜ (spot .pos + oldSizes (drop from (oldsOf entries (now directory))) < halfLimit) × (spot .word + oldWords (drop from (oldsOf entries (now directory))) < halfLimit) ⌝ }
+    ensures { λ r. ⌜ now (directory .exit) ≡ take (spot .number * 2) (now (directory .entry)) ++ (moved (entries - from) (spot .pos) (spot .word) (drop (from * 2) (now (directory .entry))) ++ drop ((spot .number + (entries - from)) * 2) (now (directory .entry))) ⌝ }
 {
     let n = entries - from;
-    move_words(directory, from * 2, to * 2, n * 2);
-    renumber(directory, to, n, pos, at);
+    move_words(directory, from * 2, spot.number * 2, n * 2);
+    renumber(directory, spot, n);
 }

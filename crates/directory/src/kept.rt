@@ -1,38 +1,33 @@
 // The pieces that re-reading keeps.
 use crate::arrays::move_entries;
 use crate::arrays::move_words;
+use crate::pieces::Spot;
 ghost use mathlib.Core.Path.{_≡_};
 ghost use Prim.Native.Nat.{max, _+_, _≤_, _<_};
 ghost use lib.ListN.{length, take, drop};
 ghost use Rattle.program.specs.Class.{isWord};
+ghost use Rattle.records.specs.Limits.{halfLimit};
 ghost use Rattle.records.specs.Pieces.{leads, addrspace, oldSizes, oldWords};
 ghost use Rattle.directory.specs.Olds.{oldsOf, Joined, FrontIs, WordEnd, RoomFor, KeptBehind};
 
-// How many pieces, and where the last of them ends in text and words.
-pub struct Front {
-    pub count: usize,
-    pub pos: usize,
-    pub at: usize,
-}
-
-// Where the first `count` pieces end.
-pub fn front_of(directory: &[u64], count: usize) -> Front
-    requires { ⌜ Joined count (now directory) ⌝ }
-    ensures { λ r. ⌜ (r .count ≡ count) × (r .pos ≡ oldSizes (oldsOf count (now (directory .entry)))) × (r .at ≡ oldWords (oldsOf count (now (directory .entry)))) ⌝ }
+// Where the first `number` pieces end, and the next would stand.
+pub fn behind(directory: &[u64], number: usize) -> Spot
+    requires { ⌜ Joined number (now directory) ⌝ }
+    ensures { λ r. ⌜ (r .number ≡ number) × (r .pos ≡ oldSizes (oldsOf number (now (directory .entry)))) × (r .word ≡ oldWords (oldsOf number (now (directory .entry)))) ⌝ }
 {
-    if count == 0 {
-        return Front {
-            count: 0,
+    if number == 0 {
+        return Spot {
+            number: 0,
             pos: 0,
-            at: 0,
+            word: 0,
         };
     }
-    let x = directory[(count - 1) * 2] as usize;
-    let y = directory[(count - 1) * 2 + 1] as usize;
-    Front {
-        count,
-        pos: x / 4294967296 + x % 4294967296,
-        at: y / 4294967296 + y % 4294967296,
+    let x = directory[(number - 1) * 2];
+    let y = directory[(number - 1) * 2 + 1];
+    Spot {
+        number,
+        pos: (x / records::HALF + x % records::HALF) as usize,
+        word: (y / records::HALF + y % records::HALF) as usize,
     }
 }
 
@@ -40,28 +35,28 @@ pub fn front_of(directory: &[u64], count: usize) -> Front
 fn is_word(b: u8) -> bool
     ensures { λ r. ⌜ r ≡ isWord b ⌝ }
 {
-    if b < 48 {
+    if b < b'0' {
         return false;
     }
-    if b < 58 {
+    if b <= b'9' {
         return true;
     }
-    if b < 65 {
+    if b < b'A' {
         return false;
     }
-    if b < 91 {
+    if b <= b'Z' {
         return true;
     }
-    if b < 95 {
+    if b < b'_' {
         return false;
     }
-    if b < 96 {
+    if b <= b'_' {
         return true;
     }
-    if b < 97 {
+    if b < b'a' {
         return false;
     }
-    if b < 123 {
+    if b <= b'z' {
         return true;
     }
     false
@@ -115,64 +110,60 @@ fn addrspace_at(text: &[u8], a: usize, p: usize) -> bool
 // "Pieces are kept up to the first that fails this: its end is below a and, for a block, the letters, digits and `_` that stand from
 // there, with the byte behind them, are below a too and are not `addrspace`": of the text, either one, the first a bytes are common.
 // A word is passed over once: w is the end of the last, behind which the next search starts.
-pub fn kept_front(text: &[u8], a: usize, directory: &[u64], entries: usize) -> Front
+pub fn kept_front(text: &[u8], a: usize, directory: &[u64], entries: usize) -> Spot
     requires { ⌜ (a ≤ length (now text)) × (2 ≤ entries) ⌝ }
     requires { ⌜ Joined entries (now directory) ⌝ }
-    ensures { λ r. ⌜ FrontIs (take a (now (text .entry))) (oldsOf entries (now (directory .entry))) (r .count) (r .pos) (r .at) ⌝ }
+    ensures { λ r. ⌜ FrontIs (take a (now (text .entry))) (oldsOf entries (now (directory .entry))) (r .number) (r .pos) (r .word) ⌝ }
 {
-    let head = (directory[0] % 4294967296) as usize;
+    let head = (directory[0] % records::HALF) as usize;
     if a <= head {
-        return front_of(directory, 0);
+        return behind(directory, 0);
     }
     let mut i: usize = 1;
     let mut pos = head;
     let mut w: usize = 0;
     while i + 1 < entries {
-        let e = (directory[i * 2] % 4294967296) as usize;
+        let e = (directory[i * 2] % records::HALF) as usize;
         if a - pos <= e {
-            return front_of(directory, i);
+            return behind(directory, i);
         }
         pos += e;
         w = word_end(text, a, later(w, pos));
         if a <= w {
-            return front_of(directory, i);
+            return behind(directory, i);
         }
         if addrspace_at(text, a, pos) {
-            return front_of(directory, i);
+            return behind(directory, i);
         }
         i += 1;
     }
-    let tail = (directory[i * 2] % 4294967296) as usize;
+    let tail = (directory[i * 2] % records::HALF) as usize;
     if a - pos <= tail {
-        return front_of(directory, i);
+        return behind(directory, i);
     }
-    front_of(directory, i + 1)
+    behind(directory, i + 1)
 }
 
-// Makes place for what is read: the old pieces from number `from` on, "kept, shifted", become pieces `to` and so on, which stand at pos
-// and at word `at`. Returns the end of their words.
+// Makes place for what is read: the old pieces from number `from` on, "kept, shifted", come to stand there. Returns the end of their words.
 pub fn keep_behind(
     words: &mut [u64],
     directory: &mut [u64],
     entries: usize,
     from: usize,
-    to: usize,
-    pos: usize,
-    at: usize,
+    spot: Spot,
 ) -> usize
     requires { ⌜ Joined entries (now directory) ⌝ }
-    requires { ⌜ (from ≤ entries) × (oldWords (oldsOf entries (now directory)) ≤ length (now words)) × (pos + oldSizes (drop from (oldsOf entries (now directory))) < 4294967296) ⌝ }
-    requires { ⌜ RoomFor (length (now words)) (length (now directory)) to at (drop from (oldsOf entries (now directory))) ⌝ }
-    ensures { λ r. ⌜ KeptBehind (now (words .entry)) (now (directory .entry)) entries from to pos at r (now (words .exit)) (now (directory .exit)) ⌝ }
+    requires { ⌜ (from ≤ entries) × (oldWords (oldsOf entries (now directory)) ≤ length (now words)) × (spot .pos + oldSizes (drop from (oldsOf entries (now directory))) < halfLimit) ⌝ }
+    requires { ⌜ RoomFor (length (now words)) (length (now directory)) (spot .number) (spot .word) (drop from (oldsOf entries (now directory))) ⌝ }
+    ensures { λ r. ⌜ KeptBehind (now (words .entry)) (now (directory .entry)) entries from (spot .number) (spot .pos) (spot .word) r (now (words .exit)) (now (directory .exit)) ⌝ }
 {
     if from == entries {
-        return at;
+        return spot.word;
     }
-    let here = front_of(directory, from);
-    let end = front_of(directory, entries);
-    let first = here.at;
-    let n = end.at - first;
-    move_words(words, first, at, n);
-    move_entries(directory, entries, from, to, pos, at);
-    at + n
+    let here = behind(directory, from);
+    let end = behind(directory, entries);
+    let n = end.word - here.word;
+    move_words(words, here.word, spot.word, n);
+    move_entries(directory, entries, from, spot);
+    spot.word + n
 }

@@ -2,6 +2,5 @@
 pub mod arrays; // arrays.rt: zeros, entries, and moves within a lent array
 pub mod kept; // kept.rt: the pieces that re-reading keeps
 pub mod older; // older.rt: the older directory
-pub mod pieces; // pieces.rt: what reading one piece gives
+pub mod pieces; // pieces.rt: where a piece stands, and what reading it gives
 pub mod rooms; // rooms.rt: questions 20 and 21
-pub mod text; // text.rt: questions 1 and 2, and what two texts have in common

@@ -5,39 +5,46 @@ ghost use Rattle.records.specs.Pieces.{olds};
 ghost use Rattle.directory.specs.Olds.{answers, oldsOf, Joined, Passed};
 ghost use Rattle.directory.specs.Answers.{Finds, Joins};
 
+// The older records: how many entries the directory has, and how many words are lent.
+pub struct Older {
+    pub entries: usize,
+    pub words: usize,
+}
+
 // Question 22: "Does the older directory, whose entry count is lent, have at least 2 entries within its array, the first starting at 0
 // in text and words, each starting where the last ended, ending inside older text and words?"
-pub fn chained(directory: &[u64], entries: usize, older_len: usize, words_len: usize) -> bool
-    ensures { λ r. ⌜ r ≡ answers (olds «older_len» «words_len» entries (now (directory .entry))) ⌝ }
+pub fn chained(directory: &[u64], older: Older, text_len: usize) -> bool
+    ensures { λ r. ⌜ r ≡ answers (olds «text_len» (older .words) (older .entries) (now (directory .entry))) ⌝ }
 {
+    let entries = older.entries;
     if entries < 2 {
         return false;
     }
     if directory.len() / 2 < entries {
         return false;
     }
-    let text = older_len as u64;
-    let words = words_len as u64;
+    let text = text_len as u64;
+    let words = older.words as u64;
     let mut i: usize = 0;
     let mut pos: u64 = 0;
-    let mut at: u64 = 0;
+    let mut word: u64 = 0;
     while i < entries {
         let x = directory[i * 2];
         let y = directory[i * 2 + 1];
-        if x / 4294967296 != pos {
+        if x / records::HALF != pos {
             return false;
         }
-        if y / 4294967296 != at {
+        if y / records::HALF != word {
             return false;
         }
-        if text - pos < x % 4294967296 {
+        if text - pos < x % records::HALF {
             return false;
         }
-        if words - at < y % 4294967296 {
+        if words - word < y % records::HALF {
             return false;
         }
-        pos += x % 4294967296;
-        at += y % 4294967296;
+        pos += x % records::HALF;
+        word += y % records::HALF;
         i += 1;
     }
     true
@@ -59,7 +66,7 @@ pub fn find_old(directory: &[u64], entries: usize, from: usize, target: usize) -
 {
     let mut j = from;
     while j < entries {
-        let start = (directory[j * 2] / 4294967296) as usize;
+        let start = (directory[j * 2] / records::HALF) as usize;
         if start == target {
             return Found::At(j);
         }
@@ -71,23 +78,24 @@ pub fn find_old(directory: &[u64], entries: usize, from: usize, target: usize) -
     Found::Nothing(j)
 }
 
+// An edit: how long both texts are, and their common end.
+pub struct Edit {
+    pub older: usize,
+    pub newer: usize,
+    pub end: usize,
+}
+
 // "After each head or block read, if at most c bytes remain and the old start at the same distance from the text's end belongs to a block
-// or tail": `left` bytes remain; looked for from piece `from` on.
-pub fn join_old(
-    directory: &[u64],
-    entries: usize,
-    from: usize,
-    older_len: usize,
-    c: usize,
-    left: usize,
-) -> Found
-    requires { ⌜ (from ≤ entries) × (c ≤ «older_len») ⌝ }
+// or tail": behind the piece that ends at pos; looked for from piece `from` on.
+pub fn join_old(directory: &[u64], entries: usize, from: usize, edit: Edit, pos: usize) -> Found
+    requires { ⌜ (from ≤ entries) × (edit .end ≤ edit .older) × (pos ≤ edit .newer) ⌝ }
     requires { ⌜ Joined entries (now directory) ⌝ }
-    requires { ⌜ Passed (oldsOf entries (now directory)) from («older_len» - left) ⌝ }
-    ensures { λ r. ⌜ Joins (oldsOf entries (now (directory .entry))) c «older_len» left r ⌝ }
+    requires { ⌜ Passed (oldsOf entries (now directory)) from (edit .older - (edit .newer - pos)) ⌝ }
+    ensures { λ r. ⌜ Joins (oldsOf entries (now (directory .entry))) (edit .end) (edit .older) (edit .newer - pos) r ⌝ }
 {
-    if c < left {
+    let left = edit.newer - pos;
+    if edit.end < left {
         return Found::Nothing(from);
     }
-    find_old(directory, entries, from, older_len - left)
+    find_old(directory, entries, from, edit.older - left)
 }

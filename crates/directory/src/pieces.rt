@@ -1,4 +1,17 @@
-// What reading one piece gives.
+// Pieces: where one stands, how much it takes, and what reading it gives.
+// Where a piece stands: its number, its place in the text, its first word.
+
+pub struct Spot {
+    pub number: usize,
+    pub pos: usize,
+    pub word: usize,
+}
+
+// How much a piece takes: bytes of text, and words.
+pub struct Size {
+    pub bytes: usize,
+    pub words: usize,
+}
 
 // A head or a block, its length and the number of its words; the tail, its length; a refusal, its number and its place from the piece's
 // start.

@@ -50,11 +50,11 @@ fn main() {
             &mut directory,
             k,
         ) {
-            Reread::Accepted(e, first, read) => {
-                listing::say(b"first ", first as u64);
-                listing::say(b" read ", read as u64);
+            Reread::Accepted(renewed) => {
+                listing::say(b"first ", renewed.first as u64);
+                listing::say(b" read ", renewed.read as u64);
                 io::write_all(1, b"\n");
-                listing::list(&directory, e);
+                listing::list(&directory, renewed.entries);
             }
             Reread::Refused(q, p) => listing::refusal(newer, q, p),
         },

@@ -1,15 +1,17 @@
 -- Attributes, linkage, calling conventions and flags: what the reader drops. 01: "Keywords are compared with fixed byte strings".
 -- Assumes nothing.
-use mathlib.Core.Bool.{Bool, true, false}
 use mathlib.Core.List.{List, [], _∷_}
 use mathlib.Core.Option.{Option, none, some}
 use Prim.Native.Nat.{ℕ, zero, suc}
 use Rattle.program.specs.Bytes.{bytes, byte}
 use Rattle.program.specs.Choice.{pick}
 use Rattle.program.specs.Class.{isDigit}
-use Rattle.program.specs.Prog.{Prog, ret, fail, look, eat, here, lead, scan, last, _>>=_}
-use Rattle.grammar.specs.Lexer.{turns, refuse, eatWs, byteIf, byteAtIf, wordIf, rankIf, skipAll, skipParens}
-use Rattle.grammar.specs.Numbers.{parseInt, most64}
+use Rattle.program.specs.Prog.{Prog, ret, scan, _>>=_}
+use Rattle.records.specs.Limits.{turns, numberLimit}
+use Rattle.records.specs.Questions.{qLeftOut}
+use Rattle.records.specs.Details.{noLinkage}
+use Rattle.grammar.specs.Lexer.{refuse, eatWs, byteIf, byteAtIf, wordIf, rankIf, skipAll, skipParens}
+use Rattle.grammar.specs.Numbers.{parseInt}
 
 -- `FLAG_ATTRS`
 unfoldable pub flagAttrs : List (List ℕ)
@@ -72,9 +74,9 @@ skipAttrsIn zero = ret tt
 skipAttrsIn (suc u) = do
   _ ← eatWs
   byteIf (byte "#") (scan groupStep 0 (λ w. skipAttrsIn u))
-      (byteAtIf 34 (refuse 18)
+      (byteAtIf 34 (refuse qLeftOut)
       (rankIf parenAttrs (λ r. skipParens >>= λ _. skipAttrsIn u)
-      (wordIf (bytes "align") (eatWs >>= λ _. (parseInt 0 most64 >>= λ _. skipAttrsIn u))
+      (wordIf (bytes "align") (eatWs >>= λ _. (parseInt 0 numberLimit >>= λ _. skipAttrsIn u))
       (rankIf flagAttrs (λ r. skipAttrsIn u) (ret tt)))))
 
 unfoldable pub skipAttrs : Prog (Unit {0})
@@ -82,14 +84,14 @@ skipAttrs = skipAttrsIn turns
 
 -- `parse_linkage`: its rank, 10 when unwritten
 unfoldable pub parseLinkage : Prog ℕ
-parseLinkage = eatWs >>= λ _. rankIf linkages ret (ret 10)
+parseLinkage = eatWs >>= λ _. rankIf linkages ret (ret noLinkage)
 
 -- `skip_call_cconv`
 unfoldable pub skipCallCconv : Prog (Unit {0})
 skipCallCconv =
     eatWs >>= λ _.
     rankIf callingConventions (λ r. ret tt)
-    (wordIf (bytes "cc") (eatWs >>= λ _. (parseInt 0 most64 >>= λ _. ret tt)) (ret tt))
+    (wordIf (bytes "cc") (eatWs >>= λ _. (parseInt 0 numberLimit >>= λ _. ret tt)) (ret tt))
 
 unfoldable pub skipArithFlags : Prog (Unit {0})
 skipArithFlags = skipAll turns arithFlags

@@ -1,18 +1,20 @@
 -- The head, the blocks and the tail, as programs (parser.rs `parse_define`, `parse_param_list`, `parse_body`). 01: "Pieces and directory".
 -- Assumes nothing.
-use mathlib.Core.Bool.{Bool, true, false}
+use mathlib.Core.Bool.{true, false}
 use mathlib.Core.List.{List, [], _∷_, _++_}
 use Prim.Native.Nat.{ℕ, zero, suc, _+_, _*_}
-use lib.Dec.{ltb, leb, eqb}
-use lib.ListN.{length}
+use lib.Dec.{ltb, eqb}
 use Rattle.program.specs.Bytes.{bytes, byte}
 use Rattle.program.specs.Choice.{pick}
-use Rattle.program.specs.Prog.{Prog, ret, fail, look, eat, here, lead, scan, last, _>>=_}
+use Rattle.program.specs.Prog.{Prog, ret, fail, last, _>>=_}
 use Rattle.records.specs.Words.{pack, node}
-use Rattle.grammar.specs.Kinds.{kHead, kBlock, kParam}
-use Rattle.grammar.specs.Lexer.{turns, refuse, place, eatWs, byteIf, expectToken, dotsIf, Word, plain, quoted, sizeOf, spelled, readWord, nameWord, parseLocalName, parseGlobalName}
+use Rattle.records.specs.Kinds.{kHead, kBlock, kParam}
+use Rattle.records.specs.Limits.{turns, depthLimit, childLimit, listTurns}
+use Rattle.records.specs.Questions.{qToken, qStatement, qOpcode, qChildren}
+use Rattle.records.specs.Details.{dVarargs, dNamed}
+use Rattle.grammar.specs.Lexer.{refuse, place, eatWs, byteIf, expectToken, Word, isEmptyWord, sizeOf, spelled, readWord, nameWord, parseGlobalName}
 use Rattle.grammar.specs.Attributes.{parseLinkage, skipAttrs, skipCallCconv}
-use Rattle.grammar.specs.Types.{Listed, listed, countOf, dotsOf, wordsOf, depthLimit, childLimit, whole, parseType}
+use Rattle.grammar.specs.Types.{Listed, listed, countOf, dotsOf, wordsOf, child, whole, behind, dotsList, parseType}
 use Rattle.grammar.specs.Instructions.{isWordThen, plainInst, valueInst, parseRet, parseBr, parseSwitch, parseUnreachable}
 
 -- Statements.
@@ -43,13 +45,11 @@ opcode w =
     (isWordThen w (bytes "br") (asTerminator parseBr)
     (isWordThen w (bytes "switch") (asTerminator parseSwitch)
     (isWordThen w (bytes "unreachable") (asTerminator parseUnreachable)
-    (plainInst w (refuse 9) >>= λ ws. ret (instruction ws)))))
+    (plainInst w (refuse qOpcode) >>= λ ws. ret (instruction ws)))))
 
+-- a word that began at i: a label, or an opcode
 unfoldable pub statementOf : ℕ → Word → Prog Statement
-statementOf i (plain []) = refuse 8
-statementOf i (plain (x ∷ w)) = byteIf (byte ":") (ret (label (pack i (sizeOf (plain (x ∷ w)))))) (opcode (spelled (plain (x ∷ w))))
-statementOf i (quoted []) = refuse 8
-statementOf i (quoted (x ∷ w)) = byteIf (byte ":") (ret (label (pack i (sizeOf (quoted (x ∷ w)))))) (opcode (spelled (quoted (x ∷ w))))
+statementOf i w = elim (isEmptyWord w) [ true ↦ refuse qStatement | false ↦ byteIf (byte ":") (ret (label (pack i (sizeOf w)))) (opcode (spelled w)) ]
 
 unfoldable pub wordStatement : Prog Statement
 wordStatement = do
@@ -66,7 +66,7 @@ unfoldable pub finishBlock : ℕ → ℕ → ℕ → List ℕ → List ℕ → P
 finishBlock l n over acc term =
     elim (ltb n childLimit) [
       | true ↦ ret (node kBlock 0 (n + 1) (l ∷ (acc ++ term)))
-      | false ↦ elim (ltb childLimit n) [ true ↦ fail 19 over | false ↦ refuse 19 ]
+      | false ↦ elim (ltb childLimit n) [ true ↦ fail qChildren over | false ↦ refuse qChildren ]
     ]
 
 -- the place behind the 65,536th instruction, once it is read
@@ -76,7 +76,7 @@ overAt n over j = pick (eqb n childLimit) j over
 -- `parse_body`, for one piece: the last label ("the last of several labels, even behind instructions"; zero means none), how many instructions,
 -- `over`, their words. A tail ends at `}` and has no words: "its instructions are read and dropped".
 unfoldable pub parseBody : ℕ → ℕ → ℕ → ℕ → List ℕ → Prog (List ℕ)
-parseBody zero l n over acc = refuse 8
+parseBody zero l n over acc = refuse qStatement
 parseBody (suc u) l n over acc = do
   _ ← eatWs
   last (byte "}") [] (do
@@ -97,7 +97,7 @@ parseBlock = parseBody turns 0 0 0 []
 unfoldable pub paramOf : List ℕ → Prog (List ℕ)
 paramOf t = do
   _ ← eatWs
-  byteIf (byte "%") (nameWord >>= λ n. ret (node kParam 1 1 (n ∷ t))) (ret (node kParam 0 1 (0 ∷ t)))
+  byteIf (byte "%") (nameWord >>= λ n. ret (node kParam dNamed 1 (n ∷ t))) (ret (node kParam 0 1 (0 ∷ t)))
 
 unfoldable pub parseParam : ℕ → Prog (List ℕ)
 parseParam q = do
@@ -105,24 +105,14 @@ parseParam q = do
   _ ← skipAttrs
   paramOf t
 
--- parameters, u more are allowed, through the `)`; the return type is a child before them
-unfoldable pub paramItems : ℕ → ℕ → List ℕ → Prog Listed
-paramItems zero n acc =
-    eatWs >>= λ _. dotsIf 5 (expectToken (byte ")") >>= λ _. ret (listed n 1 acc)) (parseParam 19 >>= λ _. refuse 19)
-paramItems (suc u) n acc = do
-  _ ← eatWs
-  dotsIf 5 (expectToken (byte ")") >>= λ _. ret (listed n 1 acc)) (do
-    x ← parseParam 3
-    _ ← eatWs
-    byteIf (byte ",") (paramItems u (n + 1) (acc ++ x)) (byteIf (byte ")") (ret (listed (n + 1) 0 (acc ++ x))) (refuse 3)))
-
--- `parse_param_list`, behind the `(`
+-- `parse_param_list`, behind the `(`; the return type is a child before them
 unfoldable pub parseParamList : Prog Listed
-parseParamList = eatWs >>= λ _. byteIf (byte ")") (ret (listed 1 0 [])) (paramItems 65534 1 [])
+parseParamList =
+    eatWs >>= λ _. byteIf (byte ")") (ret (listed 1 0 [])) (dotsList listTurns 1 1 5 (λ n. child n (parseParam (behind n 3))) 1 [])
 
 -- "The head has the `Linkage` rank (10 when unwritten) plus 128 for varargs."
 unfoldable pub headNode : ℕ → ℕ → List ℕ → Listed → List ℕ
-headNode linkage name t l = node kHead (linkage + 128 * dotsOf l) (countOf l) (name ∷ (t ++ wordsOf l))
+headNode linkage name t l = node kHead (linkage + dVarargs * dotsOf l) (countOf l) (name ∷ (t ++ wordsOf l))
 
 -- `parse_define`, through the `{`
 unfoldable pub parseHead : Prog (List ℕ)
@@ -131,10 +121,10 @@ parseHead = do
   _ ← skipAttrs
   _ ← skipCallCconv
   _ ← skipAttrs
-  t ← whole 3 (parseType depthLimit)
+  t ← whole qToken (parseType depthLimit)
   name ← parseGlobalName
   _ ← expectToken (byte "(")
   l ← parseParamList
   _ ← skipAttrs
   _ ← eatWs
-  last (byte "{") (headNode linkage name t l) (refuse 3)
+  last (byte "{") (headNode linkage name t l) (refuse qToken)

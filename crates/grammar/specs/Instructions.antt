@@ -2,21 +2,24 @@
 -- A definition is named as its Rust function, in the other spelling: `parse_bin` is `parseBin`.
 -- 01: "Record words": the destination is the first payload word, zero when absent; no terminator has one.
 -- Assumes nothing.
-use mathlib.Core.Bool.{Bool, true, false}
+use mathlib.Core.Bool.{true, false}
 use mathlib.Core.List.{List, [], _∷_, _++_}
 use mathlib.Core.Option.{Option, none, some}
-use Prim.Native.Nat.{ℕ, zero, suc, _+_, _*_, _/_, _^_}
+use Prim.Native.Nat.{ℕ, zero, suc, _+_, _*_}
 use lib.Dec.{ltb, eqb}
 use lib.ListN.{length, getD}
 use Rattle.program.specs.Bytes.{bytes, byte}
-use Rattle.program.specs.Prog.{Prog, ret, fail, look, eat, here, lead, scan, _>>=_}
-use Rattle.records.specs.Words.{node}
-use Rattle.grammar.specs.Kinds.{kFunc, kIntConst, kBin, kFBin, kFNeg, kConv, kICmp, kFCmp, kSelect, kLoad, kStore, kAlloca, kGep, kPhi, kCall, kFreeze, kAtomicLoad, kAtomicStore, kCmpxchg, kExtractValue, kFence, kRet, kBr, kSwitch, kUnreachable, kName}
-use Rattle.grammar.specs.Lexer.{turns, refuse, eatWs, byteIf, byteAtIf, wordIf, rankIf, tokenIf, expectToken, expectKeyword, skipKeyword, skipOne, skipAll, dotsIf, sameWord, rank, parseLocalName, skipParens, skipMetadataRef}
-use Rattle.grammar.specs.Numbers.{parseInt, most64}
+use Rattle.program.specs.Prog.{Prog, ret, _>>=_}
+use Rattle.records.specs.Words.{header, node}
+use Rattle.records.specs.Kinds.{kFunc, kIntConst, kBin, kFBin, kFNeg, kConv, kICmp, kFCmp, kSelect, kLoad, kStore, kAlloca, kGep, kPhi, kCall, kFreeze, kAtomicLoad, kAtomicStore, kCmpxchg, kExtractValue, kFence, kRet, kBr, kSwitch, kUnreachable, kName}
+use Rattle.records.specs.Limits.{turns, indexLimit, numberLimit, depthLimit, listDepth, listTurns}
+use Rattle.records.specs.Questions.{qToken, qType, qValue, qStatement, qOpcode, qPredicate, qTrailing, qCase, qLeftOut, qChildren}
+use Rattle.records.specs.Details.{dCount, dAllocaAlign, dFunctionType, dCondition, dValue}
+use Rattle.grammar.specs.Lexer.{refuse, eatWs, byteIf, byteAtIf, wordIf, rankIf, tokenIf, expectToken, expectKeyword, skipKeyword, skipOne, skipAll, sameWord, rank, parseLocalName, skipParens, skipMetadataRef}
+use Rattle.grammar.specs.Numbers.{parseInt}
 use Rattle.grammar.specs.Attributes.{skipAttrs, skipCallCconv, skipArithFlags, skipFastMathFlags, convFlags}
-use Rattle.grammar.specs.Types.{Listed, listed, countOf, dotsOf, wordsOf, TypeOut, plain, opened, depthLimit, whole, parseTypeList, parseType}
-use Rattle.grammar.specs.Values.{pairWith, overType, overValue, parseGepFlags, binOps, parseValue, parseTypedVal}
+use Rattle.grammar.specs.Types.{Listed, listed, countOf, dotsOf, wordsOf, TypeOut, plain, opened, child, whole, typeChild, dotsList, parseTypeList, parseType}
+use Rattle.grammar.specs.Values.{pairChild, parseGepFlags, binOps, parseValue, parseTypedVal}
 
 -- an outermost type, behind which a `(` is refused with q; an outermost value
 abbrev pub type : ℕ → Prog (List ℕ)
@@ -31,7 +34,7 @@ labelNode n = node kName 0 0 (n ∷ [])
 
 -- a typed value whose type is dropped
 unfoldable pub parseOperand : Prog (List ℕ)
-parseOperand = type 6 >>= λ _. value
+parseOperand = type qValue >>= λ _. value
 
 -- `parse_trailing`: `, align N` and metadata, as many as stand there; the last number, as its word
 unfoldable pub parseTrailingIn : ℕ → List ℕ → Prog (List ℕ)
@@ -43,9 +46,9 @@ parseTrailingIn (suc u) align =
       wordIf (bytes "align")
           (do
             _ ← eatWs
-            n ← parseInt 0 most64
+            n ← parseInt 0 numberLimit
             parseTrailingIn u (n ∷ []))
-          (byteIf (byte "!") (skipMetadataRef >>= λ _. parseTrailingIn u align) (refuse 11)))
+          (byteIf (byte "!") (skipMetadataRef >>= λ _. parseTrailingIn u align) (refuse qTrailing)))
     (ret align)
 
 unfoldable pub parseTrailing : Prog (List ℕ)
@@ -65,7 +68,7 @@ skipAtomicOrdering = do
 -- T V, V
 unfoldable pub twoOperands : Prog (List ℕ)
 twoOperands = do
-  t ← type 6
+  t ← type qValue
   a ← value
   _ ← expectToken (byte ",")
   b ← value
@@ -95,14 +98,14 @@ parseFneg dest = do
 -- Behind an instruction that ends in a type a `(` begins the next statement, which refuses with 8: here already, since a type that read a list
 -- says so of its `(` too.
 unfoldable pub noParen : {A : Type 0} → Prog A → Prog A
-noParen p = byteAtIf (byte "(") (refuse 8) p
+noParen p = byteAtIf (byte "(") (refuse qStatement) p
 
 unfoldable pub parseConv : ℕ → ℕ → Prog (List ℕ)
 parseConv op dest = do
   _ ← skipAll turns convFlags
   x ← parseTypedVal depthLimit
   _ ← expectKeyword (bytes "to")
-  t ← type 8
+  t ← type qStatement
   noParen (do
     _ ← parseTrailing
     ret (node kConv op 3 (dest ∷ (x ++ t))))
@@ -121,7 +124,7 @@ fcmpPreds =
 
 -- `parse_icmp_pred`, `parse_fcmp_pred`: question 10
 unfoldable pub predicate : List (List ℕ) → Prog ℕ
-predicate table = eatWs >>= λ _. rankIf table ret (refuse 10)
+predicate table = eatWs >>= λ _. rankIf table ret (refuse qPredicate)
 
 unfoldable pub parseIcmp : ℕ → Prog (List ℕ)
 parseIcmp dest = do
@@ -153,27 +156,10 @@ parseSelect dest = do
 -- T, T V
 unfoldable pub loadOperands : Prog (List ℕ)
 loadOperands = do
-  t ← type 3
+  t ← type qToken
   _ ← expectToken (byte ",")
   p ← parseOperand
   ret (t ++ p)
-
--- the alignment stands before the operands, and takes no word when absent; detail bit 0 says that it is there
-unfoldable pub parseLoad : ℕ → Prog (List ℕ)
-parseLoad dest = do
-  _ ← eatWs
-  wordIf (bytes "atomic")
-      (do
-        _ ← skipKeyword (bytes "volatile")
-        x ← loadOperands
-        _ ← skipAtomicOrdering
-        _ ← parseTrailing
-        ret (node kAtomicLoad 0 2 (dest ∷ x)))
-      (do
-        _ ← skipKeyword (bytes "volatile")
-        x ← loadOperands
-        align ← parseTrailing
-        ret (node kLoad (length align) 2 (dest ∷ (align ++ x))))
 
 -- T V, T V
 unfoldable pub storeOperands : Prog (List ℕ)
@@ -183,21 +169,28 @@ storeOperands = do
   p ← parseOperand
   ret (x ++ p)
 
-unfoldable pub parseStore : Prog (List ℕ)
-parseStore = do
+-- a load or a store, behind its word: the alignment stands before the operands, and takes no word when absent; a detail bit says that it is there
+unfoldable pub access : (kind atomic n : ℕ) → Prog (List ℕ) → ℕ → Prog (List ℕ)
+access kind atomic n operands dest = do
   _ ← eatWs
   wordIf (bytes "atomic")
       (do
         _ ← skipKeyword (bytes "volatile")
-        x ← storeOperands
+        x ← operands
         _ ← skipAtomicOrdering
         _ ← parseTrailing
-        ret (node kAtomicStore 0 3 (0 ∷ x)))
+        ret (node atomic 0 n (dest ∷ x)))
       (do
         _ ← skipKeyword (bytes "volatile")
-        x ← storeOperands
+        x ← operands
         align ← parseTrailing
-        ret (node kStore (length align) 3 (0 ∷ (align ++ x))))
+        ret (node kind (length align) n (dest ∷ (align ++ x))))
+
+unfoldable pub parseLoad : ℕ → Prog (List ℕ)
+parseLoad dest = access kLoad kAtomicLoad 2 loadOperands dest
+
+unfoldable pub parseStore : Prog (List ℕ)
+parseStore = access kStore kAtomicStore 3 storeOperands 0
 
 -- read as pointer, type and comparand, new value; laid out as type, pointer, comparand, new value
 unfoldable pub parseCmpxchg : ℕ → Prog (List ℕ)
@@ -206,7 +199,7 @@ parseCmpxchg dest = do
   _ ← skipKeyword (bytes "volatile")
   p ← parseOperand
   _ ← expectToken (byte ",")
-  t ← type 6
+  t ← type qValue
   c ← value
   _ ← expectToken (byte ",")
   n ← parseOperand
@@ -221,7 +214,7 @@ parseExtractvalue dest = do
   a ← parseOperand
   _ ← expectToken (byte ",")
   _ ← eatWs
-  n ← parseInt 0 4294967295
+  n ← parseInt 0 indexLimit
   _ ← parseTrailing
   ret (node kExtractValue 0 1 (dest ∷ (n ∷ a)))
 
@@ -244,7 +237,7 @@ allocaRest (suc u) count align =
       wordIf (bytes "align")
           (do
             _ ← eatWs
-            n ← parseInt 0 most64
+            n ← parseInt 0 numberLimit
             allocaRest u count (n ∷ []))
           (byteIf (byte "!") (skipMetadataRef >>= λ _. allocaRest u count align)
           (do
@@ -253,58 +246,54 @@ allocaRest (suc u) count align =
     (ret (allocaParts count align))
 
 unfoldable pub allocaNode : ℕ → List ℕ → AllocaRest → List ℕ
-allocaNode dest t (allocaParts none align) = node kAlloca (length align * 2) 1 (dest ∷ (align ++ t))
-allocaNode dest t (allocaParts (some x) align) = node kAlloca (1 + length align * 2) 3 (dest ∷ ((align ++ t) ++ x))
+allocaNode dest t (allocaParts none align) = node kAlloca (length align * dAllocaAlign) 1 (dest ∷ (align ++ t))
+allocaNode dest t (allocaParts (some x) align) = node kAlloca (dCount + length align * dAllocaAlign) 3 (dest ∷ ((align ++ t) ++ x))
 
 unfoldable pub parseAlloca : ℕ → Prog (List ℕ)
 parseAlloca dest = do
   _ ← skipKeyword (bytes "inalloca")
-  t ← type 8
+  t ← type qStatement
   noParen (do
     r ← allocaRest turns none []
     ret (allocaNode dest t r))
 
--- a getelementptr's indices, from before the comma: k of them so far; base type and pointer stand before them
+-- a getelementptr's indices, from before the comma: n children so far, base type and pointer among them
 unfoldable pub gepInstIndices : ℕ → ℕ → List ℕ → Prog Listed
-gepInstIndices zero k acc = ret (listed k 0 acc)
-gepInstIndices (suc u) k acc =
+gepInstIndices zero n acc = ret (listed n 0 acc)
+gepInstIndices (suc u) n acc =
     tokenIf (byte ",")
     (do
       _ ← eatWs
-      byteIf (byte "!") (skipMetadataRef >>= λ _. gepInstIndices u k acc)
-          (elim (ltb k 32766) [
-            | true ↦ parseTypedVal depthLimit >>= λ x. gepInstIndices u (k + 1) (acc ++ x)
-            | false ↦ overValue (parseType depthLimit) value
-          ]))
-    (ret (listed k 0 acc))
+      byteIf (byte "!") (skipMetadataRef >>= λ _. gepInstIndices u n acc)
+          (do
+            x ← pairChild (parseType depthLimit) value n
+            gepInstIndices u (n + 2) (acc ++ x)))
+    (ret (listed n 0 acc))
 
 unfoldable pub parseGepInst : ℕ → Prog (List ℕ)
 parseGepInst dest = do
   inbounds ← parseGepFlags turns 0
-  t ← type 3
+  t ← type qToken
   _ ← expectToken (byte ",")
   p ← parseOperand
-  l ← gepInstIndices turns 0 []
-  ret (node kGep inbounds (2 + countOf l * 2) (dest ∷ ((t ++ p) ++ wordsOf l)))
+  l ← gepInstIndices turns 2 []
+  ret (node kGep inbounds (countOf l) (dest ∷ ((t ++ p) ++ wordsOf l)))
 
--- a phi's pairs of value and label, k more are allowed
+-- a phi's pairs of value and label; n children so far
 unfoldable pub phiItems : ℕ → ℕ → List ℕ → Prog Listed
-phiItems zero n acc = do
+phiItems zero n acc = refuse qChildren
+phiItems (suc u) n acc = do
   _ ← expectToken (byte "[")
-  _ ← value
-  refuse 19
-phiItems (suc k) n acc = do
-  _ ← expectToken (byte "[")
-  v ← value
+  v ← child n value
   _ ← expectToken (byte ",")
-  l ← parseLocalName
+  l ← child (n + 1) parseLocalName
   _ ← expectToken (byte "]")
-  tokenIf (byte ",") (phiItems k (n + 2) ((acc ++ v) ++ labelNode l)) (ret (listed (n + 2) 0 ((acc ++ v) ++ labelNode l)))
+  tokenIf (byte ",") (phiItems u (n + 2) ((acc ++ v) ++ labelNode l)) (ret (listed (n + 2) 0 ((acc ++ v) ++ labelNode l)))
 
 unfoldable pub parsePhi : ℕ → Prog (List ℕ)
 parsePhi dest = do
-  t ← type 3
-  l ← phiItems 32767 1 []
+  t ← type qToken
+  l ← phiItems listTurns 1 []
   ret (node kPhi 0 (countOf l) (dest ∷ (t ++ wordsOf l)))
 
 unfoldable pub parseFreeze : ℕ → Prog (List ℕ)
@@ -313,41 +302,28 @@ parseFreeze dest = do
   _ ← parseTrailing
   ret (node kFreeze 0 2 (dest ∷ x))
 
--- A call's arguments (`parse_arg_list`), through the `)`: n children so far, u more arguments are allowed. `odd` children stand before them, then
--- it is the type of the one too many that question 19 refuses behind.
-unfoldable pub overArg : Bool → Prog Listed
-overArg true = overType (parseType depthLimit)
-overArg false = do
-  _ ← type 6
+-- an argument, the next children after n: a typed value with attributes behind its type
+unfoldable pub argItem : ℕ → Prog (List ℕ)
+argItem n = do
+  t ← typeChild n qValue (parseType depthLimit)
   _ ← skipAttrs
-  _ ← value
-  refuse 19
+  v ← child (n + 1) value
+  ret (t ++ v)
 
-unfoldable pub argItems : ℕ → Bool → ℕ → List ℕ → Prog Listed
-argItems zero odd n acc = eatWs >>= λ _. dotsIf 5 (expectToken (byte ")") >>= λ _. ret (listed n 0 acc)) (overArg odd)
-argItems (suc u) odd n acc = do
-  _ ← eatWs
-  dotsIf 5 (expectToken (byte ")") >>= λ _. ret (listed n 0 acc)) (do
-    t ← type 6
-    _ ← skipAttrs
-    v ← value
-    _ ← eatWs
-    byteIf (byte ",") (argItems u odd (n + 2) ((acc ++ t) ++ v))
-        (byteIf (byte ")") (ret (listed (n + 2) 0 ((acc ++ t) ++ v))) (refuse 3)))
-
-unfoldable pub parseArgList : Bool → ℕ → Prog Listed
-parseArgList odd n = eatWs >>= λ _. byteIf (byte ")") (ret (listed n 0 [])) (argItems 32766 odd n [])
+-- a call's arguments (`parse_arg_list`), through the `)`; n children stand before them
+unfoldable pub parseArgList : ℕ → Prog Listed
+parseArgList n = eatWs >>= λ _. byteIf (byte ")") (ret (listed n 0 [])) (dotsList listTurns 2 0 5 argItem n [])
 
 -- `Type::Func`, which survives in calls alone: the return type again, then the list
 unfoldable pub funcNode : List ℕ → Listed → List ℕ
-funcNode t l = node kFunc (dotsOf l) (countOf l + 1) (t ++ wordsOf l)
+funcNode t l = node kFunc (dotsOf l) (countOf l) (t ++ wordsOf l)
 
 -- behind the types: callee, arguments, attributes, trailing part
-unfoldable pub callRest : ℕ → ℕ → Bool → ℕ → List ℕ → Prog (List ℕ)
-callRest dest d odd n types = do
+unfoldable pub callRest : ℕ → ℕ → ℕ → List ℕ → Prog (List ℕ)
+callRest dest d n types = do
   f ← value
   _ ← expectToken (byte "(")
-  l ← parseArgList odd n
+  l ← parseArgList n
   _ ← skipAttrs
   _ ← parseTrailing
   ret (node kCall d (countOf l) (dest ∷ ((types ++ f) ++ wordsOf l)))
@@ -357,10 +333,10 @@ unfoldable pub callOf : ℕ → TypeOut → Prog (List ℕ)
 callOf dest (plain t) =
     tokenIf (byte "(")
     (do
-      l ← parseTypeList 5 (parseType 63)
-      callRest dest 1 true 3 (t ++ funcNode t l))
-    (callRest dest 0 false 2 t)
-callOf dest (opened t l j) = callRest dest 1 true 3 (t ++ funcNode t l)
+      l ← parseTypeList qType (parseType listDepth)
+      callRest dest dFunctionType 3 (t ++ funcNode t l))
+    (callRest dest 0 2 t)
+callOf dest (opened t l j) = callRest dest dFunctionType 3 (t ++ funcNode t l)
 
 unfoldable pub parseCall : ℕ → Prog (List ℕ)
 parseCall dest = do
@@ -382,7 +358,7 @@ parseRet = do
       (do
         x ← parseTypedVal depthLimit
         _ ← parseTrailing
-        ret (node kRet 1 2 x))
+        ret (node kRet dValue 2 x))
 
 unfoldable pub target : Prog ℕ
 target = do
@@ -403,42 +379,37 @@ parseBr = do
         a ← target
         b ← target
         _ ← parseTrailing
-        ret (node kBr 3 3 ((c ++ labelNode a) ++ labelNode b)))
+        ret (node kBr dCondition 3 ((c ++ labelNode a) ++ labelNode b)))
 
--- a case's integer: the value's two words (question 12, behind the value)
+-- a case's integer: the value's two words (question 12, behind the value); an integer's node has this header, and no other node
 unfoldable pub caseWords : List ℕ → Prog (List ℕ)
-caseWords v = elim (eqb (getD v 0 0 / 2 ^ 56) kIntConst) [ true ↦ ret (getD v 1 0 ∷ getD v 2 0 ∷ []) | false ↦ refuse 12 ]
+caseWords v = elim (eqb (getD v 0 0) (header kIntConst 0 0 3)) [ true ↦ ret (getD v 1 0 ∷ getD v 2 0 ∷ []) | false ↦ refuse qCase ]
 
 unfoldable pub caseInt : Prog (List ℕ)
 caseInt = parseOperand >>= λ v. caseWords v
 
--- a switch's cases: how many more are allowed, how many there are, their integers, the nodes of their labels
+-- a switch's cases: the children so far, their integers, the nodes of their labels
 pub data Cases : Type 0 where
   cases : ℕ → List ℕ → List ℕ → Cases
 
 unfoldable pub switchCases : ℕ → ℕ → List ℕ → List ℕ → Prog Cases
-switchCases zero n ints labels =
-    tokenIf (byte "]") (ret (cases n ints labels))
-    (do
-      _ ← caseInt
-      _ ← target
-      refuse 19)
-switchCases (suc k) n ints labels =
+switchCases zero n ints labels = refuse qChildren
+switchCases (suc u) n ints labels =
     tokenIf (byte "]") (ret (cases n ints labels))
     (do
       c ← caseInt
-      l ← target
-      switchCases k (n + 1) (ints ++ c) (labels ++ labelNode l))
+      l ← child n target
+      switchCases u (n + 1) (ints ++ c) (labels ++ labelNode l))
 
 unfoldable pub switchNode : List ℕ → ℕ → Cases → List ℕ
-switchNode x def (cases n ints labels) = node kSwitch 0 (3 + n) (((ints ++ x) ++ labelNode def) ++ labels)
+switchNode x def (cases n ints labels) = node kSwitch 0 n (((ints ++ x) ++ labelNode def) ++ labels)
 
 unfoldable pub parseSwitch : Prog (List ℕ)
 parseSwitch = do
   x ← parseTypedVal depthLimit
   def ← target
   _ ← expectToken (byte "[")
-  c ← switchCases 65532 0 [] []
+  c ← switchCases listTurns 3 [] []
   _ ← parseTrailing
   ret (switchNode x def c)
 
@@ -483,10 +454,10 @@ valueInst dest w =
     (isWordThen w (bytes "freeze") (parseFreeze dest)
     (isWordThen w (bytes "call") (parseCall dest)
     (isWordThen w (bytes "cmpxchg") (parseCmpxchg dest)
-    (isWordThen w (bytes "atomicrmw") (refuse 18)
+    (isWordThen w (bytes "atomicrmw") (refuse qLeftOut)
     (isWordThen w (bytes "extractvalue") (parseExtractvalue dest)
     (among w tailWords (λ r. parseTailCall dest)
-    (refuse 9)))))))))))))))))
+    (refuse qOpcode)))))))))))))))))
 
 -- the instructions without a destination, behind their word
 unfoldable pub plainInst : List ℕ → Prog (List ℕ) → Prog (List ℕ)

@@ -1,20 +1,17 @@
 -- What the lexer reads (lexer.rs, and "small lexical helpers" of parser.rs), as programs. 01: "Text and place".
 -- Assumes nothing.
-use mathlib.Core.Bool.{Bool, true, false, _&&_, _||_}
-use mathlib.Core.List.{List, [], _∷_, _++_}
+use mathlib.Core.Bool.{Bool, true, false, _&&_}
+use mathlib.Core.List.{List, [], _∷_}
 use mathlib.Core.Option.{Option, none, some}
 use Prim.Native.Nat.{ℕ, zero, suc, _+_, _-_, _*_}
-use lib.Dec.{ltb, leb, eqb}
+use lib.Dec.{ltb, eqb}
 use lib.ListN.{length}
-use Rattle.program.specs.Bytes.{bytes, byte}
+use Rattle.program.specs.Bytes.{byte}
 use Rattle.program.specs.Choice.{pick, test}
-use Rattle.program.specs.Class.{classOf, isSpace, isDigit, isHex, isWord, isName}
-use Rattle.program.specs.Prog.{Prog, ret, fail, look, eat, here, lead, scan, last, _>>=_}
+use Rattle.program.specs.Class.{classOf, isSpace, isHex, isName}
+use Rattle.program.specs.Prog.{Prog, ret, fail, look, eat, here, lead, scan, _>>=_}
 use Rattle.records.specs.Words.{pack}
-
--- Turns of a loop, more than a text has bytes: each turn takes a byte, so none runs out (question 1).
-abbrev pub turns : ℕ
-turns = 16777217
+use Rattle.records.specs.Questions.{qToken, qClosed, qEscape}
 
 -- a refusal at the cursor (`parse_error`): 01's number
 unfoldable pub refuse : {A : Type 0} → ℕ → Prog A
@@ -27,7 +24,7 @@ place = here (λ i. ret i)
 unfoldable pub spaceStep : ℕ → ℕ → Option ℕ
 spaceStep q x =
     pick (eqb q 0) (pick (eqb x (byte ";")) (some 1) (pick (isSpace x) (some 0) none))
-    (pick (eqb x 10) (some 0) (some 1))
+    (pick (eqb x (byte "\n")) (some 0) (some 1))
 
 -- `eat_ws`, with `eat_comment`
 unfoldable pub eatWs : Prog (Unit {0})
@@ -84,11 +81,11 @@ tokenIf b p q = eatWs >>= λ _. byteIf b p q
 
 -- `expect_token`
 unfoldable pub expectToken : ℕ → Prog (Unit {0})
-expectToken b = eatWs >>= λ _. byteIf b (ret tt) (refuse 3)
+expectToken b = eatWs >>= λ _. byteIf b (ret tt) (refuse qToken)
 
 -- `expect_keyword`
 unfoldable pub expectKeyword : List ℕ → Prog (Unit {0})
-expectKeyword kw = eatWs >>= λ _. wordIf kw (ret tt) (refuse 3)
+expectKeyword kw = eatWs >>= λ _. wordIf kw (ret tt) (refuse qToken)
 
 -- a keyword that may stand there
 unfoldable pub skipKeyword : List ℕ → Prog (Unit {0})
@@ -124,8 +121,8 @@ nameStep q x = pick (isName x) (some 0) none
 -- Between the quotes of a name: state 1 is behind `\`, 2 behind its first digit. It stops at the quote, at byte 0, and where an escape is bad.
 unfoldable pub quoteStep : ℕ → ℕ → Option ℕ
 quoteStep q x =
-    pick (eqb q 0) (pick (eqb x 34) none (pick (eqb x 0) none (pick (eqb x 92) (some 1) (some 0))))
-    (pick (eqb q 1) (pick (eqb x 92) (some 0) (pick (isHex x) (some 2) none))
+    pick (eqb q 0) (pick (eqb x (byte "\"")) none (pick (eqb x 0) none (pick (eqb x (byte "\\")) (some 1) (some 0))))
+    (pick (eqb q 1) (pick (eqb x (byte "\\")) (some 0) (pick (isHex x) (some 2) none))
     (pick (isHex x) (some 0) none))
 
 -- A word as it stands: the bytes between its quotes, or its bytes.
@@ -142,8 +139,8 @@ sizeOf (quoted w) = length w + 2
 unfoldable pub unescape : ℕ → ℕ → List ℕ → List ℕ
 unescape q h [] = []
 unescape q h (x ∷ r) =
-    test (eqb q 0) (λ u. test (eqb x 92) (λ v. unescape 1 0 r) (λ v. x ∷ unescape 0 0 r))
-    (λ u. test (eqb q 1) (λ v. test (eqb x 92) (λ y. 92 ∷ unescape 0 0 r) (λ y. unescape 2 (classOf x) r))
+    test (eqb q 0) (λ u. test (eqb x (byte "\\")) (λ v. unescape 1 0 r) (λ v. x ∷ unescape 0 0 r))
+    (λ u. test (eqb q 1) (λ v. test (eqb x (byte "\\")) (λ y. byte "\\" ∷ unescape 0 0 r) (λ y. unescape 2 (classOf x) r))
     (λ v. (h * 16 + classOf x) ∷ unescape 0 0 r))
 
 unfoldable pub spelled : Word → List ℕ
@@ -156,18 +153,24 @@ sameName a b = sameWord (spelled a) (spelled b)
 
 -- where the quoted part stopped: at its quote; else 13 (no quote) or 14 (a bad escape)
 unfoldable pub quoteEnd : List ℕ → Prog Word
-quoteEnd w = elim (eqb (stateOf quoteStep 0 w) 0) [ true ↦ byteIf 34 (ret (quoted w)) (refuse 13) | false ↦ refuse 14 ]
+quoteEnd w = elim (eqb (stateOf quoteStep 0 w) 0) [ true ↦ byteIf (byte "\"") (ret (quoted w)) (refuse qClosed) | false ↦ refuse qEscape ]
 
 -- `read_word`, behind white space; it may be empty
 unfoldable pub readWord : Prog Word
-readWord = byteIf 34 (scan quoteStep 0 quoteEnd) (scan nameStep 0 (λ w. ret (plain w)))
+readWord = byteIf (byte "\"") (scan quoteStep 0 quoteEnd) (scan nameStep 0 (λ w. ret (plain w)))
+
+unfoldable pub isEmpty : List ℕ → Bool
+isEmpty [] = true
+isEmpty (x ∷ r) = false
+
+-- no bytes, or none between the quotes
+unfoldable pub isEmptyWord : Word → Bool
+isEmptyWord (plain w) = isEmpty w
+isEmptyWord (quoted w) = isEmpty w
 
 -- "A name word is start 32, length 32": a word that began at i; an empty one is refused behind it
 unfoldable pub nameOf : ℕ → Word → Prog ℕ
-nameOf i (plain []) = refuse 3
-nameOf i (plain (x ∷ w)) = ret (pack i (sizeOf (plain (x ∷ w))))
-nameOf i (quoted []) = refuse 3
-nameOf i (quoted (x ∷ w)) = ret (pack i (sizeOf (quoted (x ∷ w))))
+nameOf i w = elim (isEmptyWord w) [ true ↦ refuse qToken | false ↦ ret (pack i (sizeOf w)) ]
 
 -- a name behind its sigil
 unfoldable pub nameWord : Prog ℕ
@@ -178,11 +181,11 @@ nameWord = do
 
 -- `parse_local_name`
 unfoldable pub parseLocalName : Prog ℕ
-parseLocalName = eatWs >>= λ _. byteIf (byte "%") nameWord (refuse 3)
+parseLocalName = eatWs >>= λ _. byteIf (byte "%") nameWord (refuse qToken)
 
 -- `parse_global_name`
 unfoldable pub parseGlobalName : Prog ℕ
-parseGlobalName = eatWs >>= λ _. byteIf (byte "@") nameWord (refuse 3)
+parseGlobalName = eatWs >>= λ _. byteIf (byte "@") nameWord (refuse qToken)
 
 -- up to the byte that closes what `open` opens; q more are open
 unfoldable pub balanceStep : ℕ → ℕ → ℕ → ℕ → Option ℕ
@@ -191,11 +194,11 @@ balanceStep open′ close q x =
 
 -- behind the opening byte, through the one that closes it (13 where there is none; quotes and comments do not count)
 unfoldable pub balanced : ℕ → ℕ → Prog (Unit {0})
-balanced open′ close = scan (balanceStep open′ close) 0 (λ w. byteIf close (ret tt) (refuse 13))
+balanced open′ close = scan (balanceStep open′ close) 0 (λ w. byteIf close (ret tt) (refuse qClosed))
 
 -- `skip_parens`
 unfoldable pub skipParens : Prog (Unit {0})
-skipParens = eatWs >>= λ _. byteIf (byte "(") (balanced (byte "(") (byte ")")) (refuse 3)
+skipParens = eatWs >>= λ _. byteIf (byte "(") (balanced (byte "(") (byte ")")) (refuse qToken)
 
 -- `skip_metadata_ref`, behind its first `!`
 unfoldable pub skipMetadataRef : Prog (Unit {0})
@@ -207,7 +210,7 @@ skipMetadataRef = do
 -- Between the quotes of `c".."`: state 1 is behind `\`, 2 behind its first digit. It stops at the quote, and in state 2 at what is no digit.
 unfoldable pub cstringStep : ℕ → ℕ → Option ℕ
 cstringStep q x =
-    pick (eqb q 0) (pick (eqb x 34) none (pick (eqb x 92) (some 1) (some 0)))
+    pick (eqb q 0) (pick (eqb x (byte "\"")) none (pick (eqb x (byte "\\")) (some 1) (some 0)))
     (pick (eqb q 1) (pick (isHex x) (some 2) (some 0))
     (pick (isHex x) (some 0) none))
 
@@ -215,8 +218,8 @@ cstringStep q x =
 unfoldable pub cstringEnd : ℕ → List ℕ → Prog ℕ
 cstringEnd i w =
     elim (eqb (stateOf cstringStep 0 w) 0) [
-      | true ↦ byteIf 34 (ret (pack i (length w + 2))) (refuse 13)
-      | false ↦ here (λ j. fail (pick (eqb (stateOf cstringStep 0 w) 1) 13 14) (j + 1))
+      | true ↦ byteIf (byte "\"") (ret (pack i (length w + 2))) (refuse qClosed)
+      | false ↦ here (λ j. fail (pick (eqb (stateOf cstringStep 0 w) 1) qClosed qEscape) (j + 1))
     ]
 
 -- `parse_cstring`, behind the `c` and the quote; i is the quote's place

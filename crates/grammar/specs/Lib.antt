@@ -1,4 +1,3 @@
-pub mod Kinds
 pub mod Lexer
 pub mod Numbers
 pub mod Attributes
@@ -6,5 +5,5 @@ pub mod Types
 pub mod Values
 pub mod Instructions
 pub mod Body
-pub mod Again
+pub mod Function
 pub mod Readings

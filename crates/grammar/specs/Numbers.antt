@@ -1,16 +1,17 @@
 -- Numbers: integers, the bits of floats, decimals over whole numbers. 01: "Types and values", questions 4, 7, 15 and 17.
 -- Assumes nothing.
 use mathlib.Core.Bool.{Bool, true, false, not, _&&_, _||_}
-use mathlib.Core.List.{List, [], _∷_, _++_}
+use mathlib.Core.List.{List, [], _∷_}
 use mathlib.Core.Option.{Option, none, some}
 use Prim.Native.Nat.{ℕ, zero, suc, _+_, _-_, _*_, _/_, _%_, _^_}
 use lib.Dec.{ltb, leb, eqb}
 use lib.ListN.{length}
-use Rattle.program.specs.Bytes.{bytes, byte}
+use Rattle.program.specs.Bytes.{byte}
 use Rattle.program.specs.Choice.{pick, test}
-use Rattle.program.specs.Class.{classOf, isDigit, isHex}
-use Rattle.program.specs.Prog.{Prog, ret, fail, look, eat, here, lead, scan, last, _>>=_}
-use Rattle.grammar.specs.Lexer.{refuse, byteIf}
+use Rattle.program.specs.Class.{classOf, inside, isDigit, isHex}
+use Rattle.program.specs.Prog.{Prog, ret, scan, _>>=_}
+use Rattle.records.specs.Questions.{qDigit, qLiteral, qNumber, qDecimal}
+use Rattle.grammar.specs.Lexer.{refuse, byteIf, isEmpty}
 
 -- "A number begins with a digit; later underscores are passed over."
 unfoldable pub digitStep : ℕ → ℕ → Option ℕ
@@ -30,16 +31,12 @@ countDigits [] = 0
 countDigits (x ∷ r) = pick (eqb x (byte "_")) 0 1 + countDigits r
 
 unfoldable pub numberOf : ℕ → ℕ → List ℕ → Prog ℕ
-numberOf lo hi [] = refuse 4
-numberOf lo hi (x ∷ r) = elim (leb lo (valueOf 0 (x ∷ r)) && leb (valueOf 0 (x ∷ r)) hi) [ true ↦ ret (valueOf 0 (x ∷ r)) | false ↦ refuse 15 ]
+numberOf lo hi [] = refuse qDigit
+numberOf lo hi (x ∷ r) = elim (leb lo (valueOf 0 (x ∷ r)) && leb (valueOf 0 (x ∷ r)) hi) [ true ↦ ret (valueOf 0 (x ∷ r)) | false ↦ refuse qNumber ]
 
 -- `parse_int(10)`: question 4, and question 15 behind the digits
 unfoldable pub parseInt : ℕ → ℕ → Prog ℕ
 parseInt lo hi = digits >>= numberOf lo hi
-
--- "other numbers below 2^64"
-abbrev pub most64 : ℕ
-most64 = 18446744073709551615
 
 -- Integers: "two words, two's complement of 128 bits, high first".
 abbrev pub halves : ℕ → List ℕ
@@ -62,51 +59,100 @@ hexOf a (x ∷ r) = hexOf (a * 16 + classOf x) r
 unfoldable pub hexStep : ℕ → ℕ → Option ℕ
 hexStep q x = pick (isHex x) (some 0) none
 
-unfoldable pub inside : ℕ → ℕ → ℕ → Bool
-inside lo hi n = leb lo n && leb n hi
-
 -- `parse_hex_float`, behind `0x`: "takes 1 to 16 hex digits as bits"
 unfoldable pub parseHexFloat : Prog ℕ
-parseHexFloat = scan hexStep 0 (λ w. elim (inside 1 16 (length w)) [ true ↦ ret (hexOf 0 w) | false ↦ refuse 7 ])
+parseHexFloat = scan hexStep 0 (λ w. elim (inside 1 16 (length w)) [ true ↦ ret (hexOf 0 w) | false ↦ refuse qLiteral ])
 
 -- the place of the highest bit of n, where u is at least that place
 unfoldable pub log2 : ℕ → ℕ → ℕ
 log2 zero n = 0
 log2 (suc u) n = test (ltb n 2) (λ x. 0) (λ x. suc (log2 u (n / 2)))
 
--- Widening of binary32: sign, exponent and fraction of 32 bits. "In widening, a subnormal is shifted by its count of leading zeros. A NaN keeps
--- its payload with the quiet bit set."
+-- IEEE 754: the bits of a float are its sign, its exponent plus a bias, its fraction. Exponent 0 is a subnormal's, the highest infinity's and NaN's.
+-- For the others a 1 stands in front of the fraction, which is not written: both together are the significand.
+abbrev pub fraction32 : ℕ
+fraction32 = 23
+
+abbrev pub bias32 : ℕ
+bias32 = 127
+
+abbrev pub highest32 : ℕ
+highest32 = 255
+
+abbrev pub fraction64 : ℕ
+fraction64 = 52
+
+abbrev pub bias64 : ℕ
+bias64 = 1023
+
+abbrev pub highest64 : ℕ
+highest64 = 2047
+
+-- a NaN's quiet bit, the highest of its fraction
+abbrev pub quiet32 : ℕ
+quiet32 = 2 ^ (fraction32 - 1)
+
+-- Widening of binary32, without the sign. A fraction moves up by as many bits as binary64 has more.
+abbrev pub moved : ℕ → ℕ
+moved f = f * 2 ^ (fraction64 - fraction32)
+
+-- the highest exponent: "A NaN keeps its payload with the quiet bit set."
+unfoldable pub specialBits : ℕ → ℕ
+specialBits f = highest64 * 2 ^ fraction64 + pick (eqb f 0) 0 (moved (pick (leb quiet32 f) f (f + quiet32)))
+
+-- A subnormal is f times 2 to the 1 - bias32 - fraction32. "In widening, a subnormal is shifted by its count of leading zeros": bit h is its
+-- highest, which is not written then.
+unfoldable pub subnormalAt : ℕ → ℕ → ℕ
+subnormalAt h f = (h + (bias64 + 1 - bias32 - fraction32)) * 2 ^ fraction64 + (f - 2 ^ h) * 2 ^ (fraction64 - h)
+
+unfoldable pub subnormalBits : ℕ → ℕ
+subnormalBits f = subnormalAt (log2 fraction32 f) f
+
+-- sign, exponent and fraction
 unfoldable pub widenParts : ℕ → ℕ → ℕ → ℕ
 widenParts s e f =
     s * 2 ^ 63 +
-    pick (eqb e 255) (2047 * 2 ^ 52 + pick (eqb f 0) 0 (pick (leb (2 ^ 22) f) f (f + 2 ^ 22) * 2 ^ 29))
-    (pick (eqb e 0) (pick (eqb f 0) 0 ((log2 23 f + 874) * 2 ^ 52 + (f - 2 ^ log2 23 f) * 2 ^ (52 - log2 23 f)))
-    ((e + 896) * 2 ^ 52 + f * 2 ^ 29))
+    pick (eqb e highest32) (specialBits f)
+    (pick (eqb e 0) (pick (eqb f 0) 0 (subnormalBits f))
+    ((e + (bias64 - bias32)) * 2 ^ fraction64 + moved f))
 
 unfoldable pub widen : ℕ → ℕ
-widen b = widenParts (b / 2 ^ 31) (b / 2 ^ 23 % 256) (b % 2 ^ 23)
+widen b = widenParts (b / 2 ^ 31) (b / 2 ^ fraction32 % 256) (b % 2 ^ fraction32)
 
 -- behind `f0x`: "exactly 8 (binary32 widened) or 16"
 unfoldable pub parseF0x : Prog ℕ
 parseF0x =
     scan hexStep 0 (λ w. elim (eqb (length w) 8) [
       | true ↦ ret (widen (hexOf 0 w))
-      | false ↦ elim (eqb (length w) 16) [ true ↦ ret (hexOf 0 w) | false ↦ refuse 7 ]
+      | false ↦ elim (eqb (length w) 16) [ true ↦ ret (hexOf 0 w) | false ↦ refuse qLiteral ]
     ])
 
 unfoldable pub isOdd : ℕ → Bool
 isOdd n = eqb (n % 2) 1
 
--- The binary64 nearest num / den, ties to even, for values from 10^-22 up to 10^37. The value is scaled by 2^126, so that every such value is at
--- least 2^52; t more bits than 53 stand in front of the point then. Its significand is q of 53 bits, and r is what is left of m.
+-- the whole number nearest a quotient, ties to even: q, and r is left of m
 unfoldable pub rounded : ℕ → ℕ → ℕ → ℕ
 rounded q r m = pick (ltb m (2 * r) || (eqb m (2 * r) && isOdd q)) (q + 1) q
 
+abbrev pub nearestWhole : ℕ → ℕ → ℕ
+nearestWhole n m = rounded (n / m) (n % m) m
+
+-- The binary64 nearest num / den, ties to even, for values from 10^-22 up to 10^37. A value is scaled up by this power of two, so that all bits
+-- of its significand stand in front of the point: 10^22 is below 2^74, so it is at least 2^fraction64 then. And it is below 2^256.
+abbrev pub scale : ℕ
+scale = 74 + fraction64
+
+-- A scaled value n / d whose highest bit is bit h: the value's exponent is h - scale, and its significand counts units of 2^(h - fraction64).
+-- The significand's 1 in front, which is not written, is added to the exponent, so 1 is taken from that; where the significand is rounded up to
+-- the next power of two, the sum is the next exponent.
 unfoldable pub nearestAt : ℕ → ℕ → ℕ → ℕ
-nearestAt t n m = (t + 948) * 2 ^ 52 + rounded (n / m) (n % m) m
+nearestAt h n d = (h + (bias64 - scale - 1)) * 2 ^ fraction64 + nearestWhole n (d * 2 ^ (h - fraction64))
+
+unfoldable pub nearestScaled : ℕ → ℕ → ℕ
+nearestScaled n d = nearestAt (log2 256 (n / d)) n d
 
 unfoldable pub nearest : ℕ → ℕ → ℕ
-nearest num den = nearestAt (log2 256 (num * 2 ^ 126 / den) - 52) (num * 2 ^ 126) (den * 2 ^ (log2 256 (num * 2 ^ 126 / den) - 52))
+nearest num den = nearestScaled (num * 2 ^ scale) den
 
 -- how many zeros stand at the end of a number's digits, of which there are at most u
 unfoldable pub zerosOf : ℕ → ℕ → ℕ
@@ -157,10 +203,6 @@ readNumeric = do
   w ← digits
   byteIf (byte ".") (digits >>= λ f. behindPoint w true f) (behindPoint w false [])
 
-unfoldable pub isEmpty : List ℕ → Bool
-isEmpty [] = true
-isEmpty (x ∷ r) = false
-
 unfoldable pub isFloat : Numeral → Bool
 isFloat n = n .point || n .exponent
 
@@ -190,14 +232,14 @@ pub data Literal : Type 0 where
   float : ℕ → Literal
 
 unfoldable pub integerOf : Bool → List ℕ → Prog Literal
-integerOf neg [] = refuse 7
-integerOf neg (x ∷ r) = elim (leb (valueOf 0 (x ∷ r)) (largest neg)) [ true ↦ ret (int (halves (twos neg (valueOf 0 (x ∷ r))))) | false ↦ refuse 7 ]
+integerOf neg [] = refuse qLiteral
+integerOf neg (x ∷ r) = elim (leb (valueOf 0 (x ∷ r)) (largest neg)) [ true ↦ ret (int (halves (twos neg (valueOf 0 (x ∷ r))))) | false ↦ refuse qLiteral ]
 
 unfoldable pub decimalOf : Bool → Numeral → Prog Literal
 decimalOf neg n =
     elim (isValid n) [
-      | true ↦ elim (floatOf n) [ some b ↦ ret (float (signed neg b)) | none ↦ refuse 17 ]
-      | false ↦ refuse 7
+      | true ↦ elim (floatOf n) [ some b ↦ ret (float (signed neg b)) | none ↦ refuse qDecimal ]
+      | false ↦ refuse qLiteral
     ]
 
 -- a numeral behind its sign: "One with `.`, `e` or `E` is the binary64 nearest its value"; questions 7 and 17 behind it

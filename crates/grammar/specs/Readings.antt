@@ -2,11 +2,11 @@
 -- Assumes nothing.
 use mathlib.Core.Path.{_≡_, refl}
 use mathlib.Core.List.{List, [], _∷_, _++_, map}
-use Prim.Native.Nat.{ℕ, zero, _/_, _%_}
-use lib.ListN.{length}
+use Prim.Native.Nat.{ℕ}
 use Rattle.program.specs.Bytes.{bytes}
 use Rattle.program.specs.Class as Class
 use Rattle.program.specs.Prog as Prog
+use Rattle.records.specs.Limits as Limits
 use Rattle.records.specs.Words as Words
 use Rattle.records.specs.Pieces as Pieces
 use Rattle.records.specs.Piece as Piece
@@ -17,7 +17,7 @@ use Rattle.grammar.specs.Types as Types
 use Rattle.grammar.specs.Values as Values
 use Rattle.grammar.specs.Instructions as Instructions
 use Rattle.grammar.specs.Body as Body
-use Rattle.grammar.specs.Again as Again
+use Rattle.grammar.specs.Function as Again
 
 -- What is asked of a text: a full reading, a re-reading from an older text, a type or a value at its start.
 pub data Asked : Type 0 where
@@ -28,11 +28,11 @@ pub data Asked : Type 0 where
 
 abbrev pub parts : List ℕ → List ℕ
 parts [] = []
-parts (x ∷ xs) = x / 4294967296 ∷ x % 4294967296 ∷ parts xs
+parts (x ∷ xs) = Words.hi x ∷ Words.lo x ∷ parts xs
 
 -- Accepted: the entry count, what is in front, the words and the directory's fields. Refused: 0, number, place.
 abbrev pub shownLeft : List ℕ → Pieces.Left → List ℕ
-shownLeft r (Pieces.left (Pieces.Answer.no-at q p) ws ds) = 0 ∷ q ∷ p ∷ []
+shownLeft r (Pieces.left (Pieces.refusedAt q p) ws ds) = 0 ∷ q ∷ p ∷ []
 shownLeft r (Pieces.left (Pieces.count n) ws ds) = n ∷ (r ++ (ws ++ parts ds))
 
 -- Re-reading from the records of a full reading of the older text: `first` and `read` are in front.
@@ -40,7 +40,7 @@ abbrev pub shownAgain : Pieces.Again → List ℕ
 shownAgain (Pieces.again-left l a b) = shownLeft (a ∷ b ∷ []) l
 
 abbrev pub againFrom : List ℕ → List ℕ → Pieces.Left → List ℕ
-againFrom older newer (Pieces.left (Pieces.Answer.no-at q p) ws ds) = 0 ∷ q ∷ p ∷ []
+againFrom older newer (Pieces.left (Pieces.refusedAt q p) ws ds) = 0 ∷ q ∷ p ∷ []
 againFrom older newer (Pieces.left (Pieces.count n) ws ds) = shownAgain (Again.rereadingOf ws ds n older newer)
 
 abbrev pub shownType : Prog.Res Types.TypeOut → List ℕ
@@ -56,11 +56,57 @@ shownValue (Prog.no-at q p) = 0 ∷ q ∷ p ∷ []
 
 -- Eleven words and a directory of three entries are lent to a function.
 unfoldable pub answer : Asked → List ℕ
-unfolding Class.classOf Class.isSpace Class.isDigit Class.isHex Class.isWord Class.isName Prog.byteAt Prog.leadWord Prog.scanLen Prog.run Prog._>>=_ Prog.ends Prog.next Words.pack Words.node Pieces.mapRun Pieces.firstHigh Pieces.whole Pieces.judge Pieces.pad Pieces.allWords Pieces.entries Pieces.countRun Pieces.leave Pieces.andThen Pieces.consOld Pieces.chain Pieces.olds Pieces.common Pieces.commonEnd Pieces.leads Pieces.addrspace Pieces.closes Pieces.keptRest Pieces.keptFront Pieces.size Pieces.wordsOf Pieces.isFresh Pieces.sumRun Pieces.before Pieces.oldSizes Pieces.oldWords Pieces.from Pieces.fromBlocks Pieces.joins Pieces.endOf Pieces.leftOf Pieces.leaveAgain Pieces.blocksIn Pieces.blocks Pieces.reading Pieces.fullVerdict Pieces.full Pieces.againIn Pieces.again Pieces.behindFront Pieces.keeps Pieces.rest Pieces.judgeAgain Pieces.rereadOf Pieces.reread Piece.headOf Piece.blockOf Piece.headRead Piece.blockRead Lexer.refuse Lexer.place Lexer.spaceStep Lexer.eatWs Lexer.isByte Lexer.byteIf Lexer.byteAtIf Lexer.sameWord Lexer.startsWith Lexer.eatN Lexer.wordIf Lexer.wordAtIf Lexer.rank Lexer.rankIf Lexer.tokenIf Lexer.expectToken Lexer.expectKeyword Lexer.skipKeyword Lexer.skipOne Lexer.skipAll Lexer.threeDots Lexer.dotsIf Lexer.stateOf Lexer.nameStep Lexer.quoteStep Lexer.sizeOf Lexer.unescape Lexer.spelled Lexer.sameName Lexer.quoteEnd Lexer.readWord Lexer.nameOf Lexer.nameWord Lexer.parseLocalName Lexer.parseGlobalName Lexer.balanceStep Lexer.balanced Lexer.skipParens Lexer.skipMetadataRef Lexer.cstringStep Lexer.cstringEnd Lexer.cstringAt Numbers.digitStep Numbers.digits Numbers.valueOf Numbers.countDigits Numbers.numberOf Numbers.parseInt Numbers.twos Numbers.largest Numbers.hexOf Numbers.hexStep Numbers.inside Numbers.parseHexFloat Numbers.log2 Numbers.widenParts Numbers.widen Numbers.parseF0x Numbers.isOdd Numbers.rounded Numbers.nearestAt Numbers.nearest Numbers.zerosOf Numbers.scaledBits Numbers.decimalBits Numbers.readSign Numbers.readExponent Numbers.behindPoint Numbers.readNumeric Numbers.isEmpty Numbers.isFloat Numbers.isValid Numbers.digitsOf Numbers.upOf Numbers.downOf Numbers.floatOf Numbers.signed Numbers.integerOf Numbers.decimalOf Numbers.literalOf Numbers.parseNumeral Attributes.flagAttrs Attributes.parenAttrs Attributes.linkages Attributes.callingConventions Attributes.arithFlags Attributes.fastMathFlags Attributes.convFlags Attributes.groupStep Attributes.skipAttrsIn Attributes.skipAttrs Attributes.parseLinkage Attributes.skipCallCconv Attributes.skipArithFlags Attributes.skipFastMathFlags Types.wholeOf Types.whole Types.items Types.structFields Types.typeItems Types.parseTypeList Types.intType Types.nameNode Types.optAddrspace Types.ptrType Types.leafTypes Types.arrayType Types.structType Types.packedType Types.parseBaseType Types.suffixes Types.typeWith Types.noType Types.parseType Values.convOps Values.binOps Values.prefixIf Values.literalWords Values.floatNode Values.numeral Values.digitIf Values.numericOr Values.cstring Values.leafValues Values.pairWith Values.overValue Values.overType Values.pairs Values.pairList Values.aggregate Values.packedConst Values.parseGepFlags Values.gepIndices Values.parseCeGep Values.parseCeConv Values.parseCeBin Values.constExprs Values.valueWith Values.parseValue Values.parseTypedVal Instructions.labelNode Instructions.parseOperand Instructions.parseTrailingIn Instructions.parseTrailing Instructions.orderings Instructions.skipAtomicOrdering Instructions.twoOperands Instructions.parseBin Instructions.parseFbin Instructions.parseFneg Instructions.noParen Instructions.parseConv Instructions.icmpPreds Instructions.fcmpPreds Instructions.predicate Instructions.parseIcmp Instructions.parseFcmp Instructions.parseSelect Instructions.loadOperands Instructions.parseLoad Instructions.storeOperands Instructions.parseStore Instructions.parseCmpxchg Instructions.parseExtractvalue Instructions.parseFence Instructions.allocaNode Instructions.allocaRest Instructions.parseAlloca Instructions.gepInstIndices Instructions.parseGepInst Instructions.phiItems Instructions.parsePhi Instructions.parseFreeze Instructions.overArg Instructions.argItems Instructions.parseArgList Instructions.funcNode Instructions.callRest Instructions.callOf Instructions.parseCall Instructions.parseTailCall Instructions.parseRet Instructions.target Instructions.parseBr Instructions.caseWords Instructions.caseInt Instructions.switchCases Instructions.switchNode Instructions.parseSwitch Instructions.parseUnreachable Instructions.fbinOps Instructions.instConvOps Instructions.among Instructions.isWordThen Instructions.tailWords Instructions.valueInst Instructions.plainInst Body.parseInst Body.asTerminator Body.opcode Body.statementOf Body.wordStatement Body.parseStatement Body.finishBlock Body.overAt Body.parseBody Body.parseBlock Body.paramOf Body.parseParam Body.paramItems Body.parseParamList Body.headNode Body.parseHead Again.headAt Again.blockAt Again.readingOf Again.rereadingOf
+unfolding
+    Class.classOf Class.isSpace Class.isDigit Class.isHex Class.isWord Class.isName
+    Prog.byteAt Prog.leadWord Prog.scanLen Prog.run Prog._>>=_ Prog.ends
+    Words.pack Words.node
+    Pieces.mapRun Pieces.firstHigh Pieces.textAsked Pieces.judge Pieces.pad Pieces.allWords Pieces.entries Pieces.countRun Pieces.leave
+    Pieces.andThen Pieces.consOld Pieces.chain Pieces.olds Pieces.common Pieces.endBehind Pieces.commonEnd Pieces.leads Pieces.addrspace
+    Pieces.closes Pieces.keptRest Pieces.keptFront Pieces.size Pieces.sourceWords Pieces.isFresh Pieces.sumRun Pieces.before Pieces.oldSizes
+    Pieces.oldWords Pieces.from Pieces.fromBlocks Pieces.joins Pieces.leftOf Pieces.leaveAgain Pieces.blocksIn Pieces.blocks Pieces.reading
+    Pieces.fullVerdict Pieces.full Pieces.againIn Pieces.again Pieces.behindFront Pieces.keeps Pieces.rest Pieces.judgeAgain Pieces.rereadOf
+    Pieces.reread
+    Piece.headOf Piece.blockOf Piece.headRead Piece.blockRead
+    Lexer.refuse Lexer.place Lexer.spaceStep Lexer.eatWs Lexer.isByte Lexer.byteIf Lexer.byteAtIf Lexer.sameWord Lexer.startsWith Lexer.eatN
+    Lexer.wordIf Lexer.wordAtIf Lexer.rank Lexer.rankIf Lexer.tokenIf Lexer.expectToken Lexer.expectKeyword Lexer.skipKeyword Lexer.skipOne
+    Lexer.skipAll Lexer.threeDots Lexer.dotsIf Lexer.stateOf Lexer.nameStep Lexer.quoteStep Lexer.sizeOf Lexer.unescape Lexer.spelled
+    Lexer.sameName Lexer.quoteEnd Lexer.readWord Lexer.isEmpty Lexer.isEmptyWord Lexer.nameOf Lexer.nameWord Lexer.parseLocalName
+    Lexer.parseGlobalName Lexer.balanceStep Lexer.balanced Lexer.skipParens Lexer.skipMetadataRef Lexer.cstringStep Lexer.cstringEnd
+    Lexer.cstringAt
+    Numbers.digitStep Numbers.digits Numbers.valueOf Numbers.countDigits Numbers.numberOf Numbers.parseInt Numbers.twos Numbers.largest
+    Numbers.hexOf Numbers.hexStep Numbers.parseHexFloat Numbers.log2 Numbers.specialBits Numbers.subnormalAt Numbers.subnormalBits
+    Numbers.widenParts Numbers.widen Numbers.parseF0x Numbers.isOdd Numbers.rounded Numbers.nearestAt Numbers.nearestScaled Numbers.nearest
+    Numbers.zerosOf Numbers.scaledBits Numbers.decimalBits Numbers.readSign Numbers.readExponent Numbers.behindPoint Numbers.readNumeric
+    Numbers.isFloat Numbers.isValid Numbers.digitsOf Numbers.upOf Numbers.downOf Numbers.floatOf Numbers.signed Numbers.integerOf
+    Numbers.decimalOf Numbers.literalOf Numbers.parseNumeral
+    Attributes.flagAttrs Attributes.parenAttrs Attributes.linkages Attributes.callingConventions Attributes.arithFlags
+    Attributes.fastMathFlags Attributes.convFlags Attributes.groupStep Attributes.skipAttrsIn Attributes.skipAttrs Attributes.parseLinkage
+    Attributes.skipCallCconv Attributes.skipArithFlags Attributes.skipFastMathFlags
+    Types.room Types.child Types.wholeOf Types.whole Types.behind Types.typeChild Types.commaOr Types.commaList Types.dotsList
+    Types.structFields Types.typeItem Types.parseTypeList Types.intType Types.nameNode Types.optAddrspace Types.ptrType Types.leafTypes
+    Types.arrayType Types.structType Types.packedType Types.parseBaseType Types.suffixes Types.typeWith Types.noType Types.parseType
+    Values.convOps Values.binOps Values.prefixIf Values.literalWords Values.floatNode Values.numeral Values.digitIf Values.numericOr
+    Values.cstring Values.leafValues Values.pairWith Values.pairChild Values.pairList Values.aggregate Values.packedConst
+    Values.parseGepFlags Values.gepIndices Values.parseCeGep Values.parseCeConv Values.parseCeBin Values.constExprs Values.valueWith
+    Values.parseValue Values.parseTypedVal
+    Instructions.labelNode Instructions.parseOperand Instructions.parseTrailingIn Instructions.parseTrailing Instructions.orderings
+    Instructions.skipAtomicOrdering Instructions.twoOperands Instructions.parseBin Instructions.parseFbin Instructions.parseFneg
+    Instructions.noParen Instructions.parseConv Instructions.icmpPreds Instructions.fcmpPreds Instructions.predicate Instructions.parseIcmp
+    Instructions.parseFcmp Instructions.parseSelect Instructions.loadOperands Instructions.storeOperands Instructions.access
+    Instructions.parseLoad Instructions.parseStore Instructions.parseCmpxchg Instructions.parseExtractvalue Instructions.parseFence
+    Instructions.allocaRest Instructions.allocaNode Instructions.parseAlloca Instructions.gepInstIndices Instructions.parseGepInst
+    Instructions.phiItems Instructions.parsePhi Instructions.parseFreeze Instructions.argItem Instructions.parseArgList
+    Instructions.funcNode Instructions.callRest Instructions.callOf Instructions.parseCall Instructions.parseTailCall Instructions.parseRet
+    Instructions.target Instructions.parseBr Instructions.caseWords Instructions.caseInt Instructions.switchCases Instructions.switchNode
+    Instructions.parseSwitch Instructions.parseUnreachable Instructions.fbinOps Instructions.instConvOps Instructions.among
+    Instructions.isWordThen Instructions.tailWords Instructions.valueInst Instructions.plainInst
+    Body.parseInst Body.asTerminator Body.opcode Body.statementOf Body.wordStatement Body.parseStatement Body.finishBlock Body.overAt
+    Body.parseBody Body.parseBlock Body.paramOf Body.parseParam Body.parseParamList Body.headNode Body.parseHead
+    Again.headAt Again.blockAt Again.readingOf Again.rereadingOf
 answer (function text) = shownLeft [] (Again.readingOf 11 6 text)
 answer (edit older newer) = againFrom older newer (Again.readingOf 11 6 older)
-answer (type text) = shownType (Prog.run (Types.parseType Types.depthLimit) 0 text)
-answer (value text) = shownValue (Prog.run (Values.parseValue Types.depthLimit) 0 text)
+answer (type text) = shownType (Prog.run (Types.parseType Limits.depthLimit) 0 text)
+answer (value text) = shownValue (Prog.run (Values.parseValue Limits.depthLimit) 0 text)
 
 abbrev pub asked : List Asked
 asked =

@@ -1,22 +1,27 @@
 -- Types (parser.rs "Types"), as programs that give their words. 01: "Types and values".
 -- Assumes nothing.
+use mathlib.Core.Bool.{true, false}
 use mathlib.Core.List.{List, [], _∷_, _++_}
 use Prim.Native.Nat.{ℕ, zero, suc, _+_}
+use lib.Dec.{ltb}
 use Rattle.program.specs.Bytes.{bytes, byte}
+use Rattle.program.specs.Choice.{pick}
 use Rattle.program.specs.Prog.{Prog, ret, fail, _>>=_}
-use Rattle.records.specs.Words.{node}
-use Rattle.grammar.specs.Kinds.{kVoid, kInt, kFloat, kDouble, kPtr, kArray, kNamed, kStruct, kLabel, kMetadata}
-use Rattle.grammar.specs.Lexer.{turns, refuse, place, eatWs, byteIf, wordIf, tokenIf, expectToken, expectKeyword, dotsIf, nameWord, skipParens}
-use Rattle.grammar.specs.Numbers.{parseInt, most64}
+use Rattle.records.specs.Words.{header, node}
+use Rattle.records.specs.Kinds.{kVoid, kInt, kFloat, kDouble, kPtr, kArray, kNamed, kStruct, kLabel, kMetadata}
+use Rattle.records.specs.Limits.{turns, widthLimit, numberLimit, childLimit, listTurns}
+use Rattle.records.specs.Questions.{qToken, qType, qDepth, qChildren}
+use Rattle.records.specs.Details.{dPacked}
+use Rattle.grammar.specs.Lexer.{refuse, place, eatWs, byteIf, wordIf, tokenIf, expectToken, expectKeyword, dotsIf, nameWord, skipParens}
+use Rattle.grammar.specs.Numbers.{parseInt}
 use Rattle.grammar.specs.Attributes.{skipAttrs}
 
--- Question 16: "Is the depth at most 64?"
-abbrev pub depthLimit : ℕ
-depthLimit = 64
+-- It is asked behind each child of a list, which has n before it in its node.
+unfoldable pub room : {A : Type 0} → ℕ → A → Prog A
+room n a = elim (ltb n childLimit) [ true ↦ ret a | false ↦ refuse qChildren ]
 
--- Question 19: "At most 65,535 direct children?"
-abbrev pub childLimit : ℕ
-childLimit = 65535
+unfoldable pub child : {A : Type 0} → ℕ → Prog A → Prog A
+child n p = p >>= room n
 
 -- a list: how many, 1 where `...` ends it, and the words
 pub data Listed : Type 0 where
@@ -45,40 +50,57 @@ wholeOf q (opened t l j) = fail q j
 unfoldable pub whole : ℕ → Prog TypeOut → Prog (List ℕ)
 whole q f = f >>= wholeOf q
 
--- Types behind commas, through the closing byte (`parse_struct_fields`): n so far, u more are allowed. Question 19 is asked behind the next.
-unfoldable pub items : ℕ → ℕ → Prog TypeOut → ℕ → List ℕ → Prog Listed
-items zero end elem n acc = whole 19 elem >>= λ _. refuse 19
-items (suc u) end elem n acc = do
-  t ← whole 3 elem
-  _ ← eatWs
-  byteIf (byte ",") (items u end elem (n + 1) (acc ++ t)) (byteIf end (ret (listed (n + 1) 0 (acc ++ t))) (refuse 3))
+-- what refuses a `(` behind a type, the next child after n: the one too many is refused with 19 there too
+unfoldable pub behind : ℕ → ℕ → ℕ
+behind n q = pick (ltb n childLimit) q 19
 
+unfoldable pub typeChild : ℕ → ℕ → Prog TypeOut → Prog (List ℕ)
+typeChild n q f = child n (whole (behind n q) f)
+
+-- behind an element: a comma and more, or the closing byte
+unfoldable pub commaOr : {A : Type 0} → ℕ → Prog A → Prog A → Prog A
+commaOr end more stop = tokenIf (byte ",") more (byteIf end stop (refuse qToken))
+
+-- elements behind commas, through the closing byte: n children so far, k for each element
+unfoldable pub commaList : ℕ → ℕ → ℕ → (ℕ → Prog (List ℕ)) → ℕ → List ℕ → Prog Listed
+commaList zero k end elem n acc = refuse qChildren
+commaList (suc u) k end elem n acc = do
+  x ← elem n
+  commaOr end (commaList u k end elem (n + k) (acc ++ x)) (ret (listed (n + k) 0 (acc ++ x)))
+
+-- the same through `)`, where `...` may stand in the last place: v says so. `bad` is what an element refuses with where none begins.
+unfoldable pub dotsList : ℕ → ℕ → ℕ → ℕ → (ℕ → Prog (List ℕ)) → ℕ → List ℕ → Prog Listed
+dotsList zero k v bad elem n acc = refuse qChildren
+dotsList (suc u) k v bad elem n acc = do
+  _ ← eatWs
+  dotsIf bad (expectToken (byte ")") >>= λ _. ret (listed n v acc)) (do
+    x ← elem n
+    commaOr (byte ")") (dotsList u k v bad elem (n + k) (acc ++ x)) (ret (listed (n + k) 0 (acc ++ x))))
+
+-- `parse_struct_fields`
 unfoldable pub structFields : Prog TypeOut → Prog Listed
-structFields elem = eatWs >>= λ _. byteIf (byte "}") (ret (listed 0 0 [])) (items childLimit (byte "}") elem 0 [])
+structFields elem =
+    eatWs >>= λ _. byteIf (byte "}") (ret (listed 0 0 [])) (commaList listTurns 1 (byte "}") (λ n. typeChild n qToken elem) 0 [])
 
--- Types with attributes behind each, `...` in the last place, through the closing parenthesis (`parse_type_list`). The return type counts with
--- them: "a dropped type list counts with its return type". `bad` is what a type refuses with where none begins.
-unfoldable pub typeItems : ℕ → ℕ → Prog TypeOut → ℕ → List ℕ → Prog Listed
-typeItems zero bad elem n acc =
-    eatWs >>= λ _. dotsIf bad (expectToken (byte ")") >>= λ _. ret (listed n 1 acc)) (whole 19 elem >>= λ _. refuse 19)
-typeItems (suc u) bad elem n acc = do
-  _ ← eatWs
-  dotsIf bad (expectToken (byte ")") >>= λ _. ret (listed n 1 acc)) (do
-    t ← whole 3 elem
-    _ ← skipAttrs
-    _ ← eatWs
-    byteIf (byte ",") (typeItems u bad elem (n + 1) (acc ++ t)) (byteIf (byte ")") (ret (listed (n + 1) 0 (acc ++ t))) (refuse 3)))
+-- a type with attributes behind it, the next child after n
+unfoldable pub typeItem : Prog TypeOut → ℕ → Prog (List ℕ)
+typeItem elem n = do
+  t ← typeChild n qToken elem
+  _ ← skipAttrs
+  ret t
 
+-- Types with attributes behind each, through the closing parenthesis (`parse_type_list`). The count is that of the function type's node: "a dropped
+-- type list counts with its return type".
 unfoldable pub parseTypeList : ℕ → Prog TypeOut → Prog Listed
-parseTypeList bad elem = eatWs >>= λ _. byteIf (byte ")") (ret (listed 0 0 [])) (typeItems 65534 bad elem 0 [])
+parseTypeList bad elem = eatWs >>= λ _. byteIf (byte ")") (ret (listed 1 0 [])) (dotsList listTurns 1 1 bad (typeItem elem) 1 [])
 
 abbrev pub ptrWords : List ℕ
-ptrWords = 360287970189639681 ∷ []
+ptrWords = header kPtr 0 0 1 ∷ []
 
 -- Question 15: "Integer width 1 to 8,388,608"
 unfoldable pub intType : Prog (List ℕ)
 intType = do
-  n ← parseInt 1 8388608
+  n ← parseInt 1 widthLimit
   ret (node kInt 0 0 (n ∷ []))
 
 -- a node that holds a name
@@ -114,9 +136,9 @@ leafTypes g =
 unfoldable pub arrayType : ℕ → ℕ → Prog TypeOut → Prog (List ℕ)
 arrayType packed end elem = do
   _ ← eatWs
-  n ← parseInt 0 most64
+  n ← parseInt 0 numberLimit
   _ ← expectKeyword (bytes "x")
-  t ← whole 3 elem
+  t ← whole qToken elem
   _ ← expectToken end
   ret (node kArray packed 1 (n ∷ t))
 
@@ -132,8 +154,8 @@ packedType elem =
     (do
       l ← structFields elem
       _ ← expectToken (byte ">")
-      ret (node kStruct 1 (countOf l) (wordsOf l)))
-    (arrayType 1 (byte ">") elem)
+      ret (node kStruct dPacked (countOf l) (wordsOf l)))
+    (arrayType dPacked (byte ">") elem)
 
 -- `parse_base_type`
 unfoldable pub parseBaseType : Prog TypeOut → Prog (List ℕ)
@@ -142,7 +164,7 @@ parseBaseType elem =
     (byteIf (byte "[") (arrayType 0 (byte "]") elem)
     (byteIf (byte "{") (structType elem)
     (byteIf (byte "<") (packedType elem)
-    (refuse 5))))
+    (refuse qType))))
 
 -- What may stand behind a type: "A type followed by `(`: a type list is read. With `*` behind, the type is ptr." and "Behind `addrspace(..)`,
 -- other than one directly after `ptr`, the `*` must stand directly, else it is left unread."
@@ -168,10 +190,10 @@ typeWith bad elem = do
 
 -- what a type refuses with where none begins, by the depth that is left
 unfoldable pub noType : ℕ → ℕ
-noType zero = 16
-noType (suc d) = 5
+noType zero = qDepth
+noType (suc d) = qType
 
 -- `parse_type`, where d levels are left: "16. Is the depth at most 64? (asked before 5 and 6, at the first character)"
 unfoldable pub parseType : ℕ → Prog TypeOut
-parseType zero = eatWs >>= λ _. refuse 16
+parseType zero = eatWs >>= λ _. refuse qDepth
 parseType (suc d) = typeWith (noType d) (parseType d)

@@ -6,13 +6,16 @@ use Prim.Native.Nat.{ℕ, zero, suc, _+_}
 use lib.ListN.{length}
 use Rattle.program.specs.Bytes.{bytes, byte}
 use Rattle.program.specs.Class.{isDigit}
-use Rattle.program.specs.Prog.{Prog, ret, fail, look, eat, here, lead, scan, _>>=_}
+use Rattle.program.specs.Prog.{Prog, ret, fail, look, eat, lead, _>>=_}
 use Rattle.records.specs.Words.{node}
-use Rattle.grammar.specs.Kinds.{kLocal, kGlobal, kIntConst, kFloatConst, kNull, kUndef, kPoison, kZeroInit, kCStr, kArrayConst, kStructConst, kGepExpr, kConvExpr, kBinExpr}
-use Rattle.grammar.specs.Lexer.{turns, refuse, place, eatWs, byteIf, startsWith, eatN, wordIf, wordAtIf, rankIf, tokenIf, expectToken, expectKeyword, skipKeyword, cstringAt, skipParens}
+use Rattle.records.specs.Kinds.{kLocal, kGlobal, kIntConst, kFloatConst, kNull, kUndef, kPoison, kZeroInit, kCStr, kArrayConst, kStructConst, kGepExpr, kConvExpr, kBinExpr}
+use Rattle.records.specs.Limits.{turns, listTurns}
+use Rattle.records.specs.Questions.{qToken, qValue, qDepth, qChildren}
+use Rattle.records.specs.Details.{dInbounds}
+use Rattle.grammar.specs.Lexer.{refuse, place, eatWs, byteIf, startsWith, eatN, wordIf, wordAtIf, rankIf, expectToken, expectKeyword, skipKeyword, cstringAt, skipParens}
 use Rattle.grammar.specs.Numbers.{Literal, int, float, parseNumeral, parseHexFloat, parseF0x}
 use Rattle.grammar.specs.Attributes.{skipArithFlags}
-use Rattle.grammar.specs.Types.{Listed, listed, countOf, wordsOf, TypeOut, whole, nameNode, parseType}
+use Rattle.grammar.specs.Types.{Listed, listed, countOf, wordsOf, TypeOut, child, whole, typeChild, commaOr, commaList, nameNode, parseType}
 
 -- `ConvOp`, in ast.rs order; a constant expression has the first six (`match_conv_op`)
 unfoldable pub convOps : List (List ℕ)
@@ -68,7 +71,7 @@ cstring = do
     j ← place
     byteIf 34 (do
       n ← cstringAt j
-      ret (node kCStr 0 0 (n ∷ []))) (fail 6 i))
+      ret (node kCStr 0 0 (n ∷ []))) (fail qValue i))
 
 -- the values that hold no other, or g
 unfoldable pub leafValues : Prog (List ℕ) → Prog (List ℕ)
@@ -89,28 +92,20 @@ leafValues g =
 -- `parse_typed_val`: at a `(` behind the type the value refuses with 6
 unfoldable pub pairWith : Prog TypeOut → Prog (List ℕ) → Prog (List ℕ)
 pairWith type value = do
-  t ← whole 6 type
+  t ← whole qValue type
   v ← value
   ret (t ++ v)
 
--- One typed value too many. "A typed value is two" children, so it is the value, or already the type, that question 19 refuses behind.
-unfoldable pub overValue : {A : Type 0} → Prog TypeOut → Prog (List ℕ) → Prog A
-overValue type value = pairWith type value >>= λ _. refuse 19
+-- the same as the next children after n: "A typed value is two"
+unfoldable pub pairChild : Prog TypeOut → Prog (List ℕ) → ℕ → Prog (List ℕ)
+pairChild type value n = do
+  t ← typeChild n qValue type
+  v ← child (n + 1) value
+  ret (t ++ v)
 
-unfoldable pub overType : {A : Type 0} → Prog TypeOut → Prog A
-overType type = whole 19 type >>= λ _. refuse 19
-
--- typed values behind commas, through the closing byte; u more are allowed
-unfoldable pub pairs : ℕ → ℕ → Prog TypeOut → Prog (List ℕ) → ℕ → List ℕ → Prog Listed
-pairs zero end type value n acc = overValue type value
-pairs (suc u) end type value n acc = do
-  x ← pairWith type value
-  _ ← eatWs
-  byteIf (byte ",") (pairs u end type value (n + 2) (acc ++ x)) (byteIf end (ret (listed (n + 2) 0 (acc ++ x))) (refuse 3))
-
--- `parse_array_const`, `parse_struct_const`, behind the opening byte; 32,767 pairs are 65,534 children
+-- `parse_array_const`, `parse_struct_const`, behind the opening byte
 unfoldable pub pairList : ℕ → Prog TypeOut → Prog (List ℕ) → Prog Listed
-pairList end type value = eatWs >>= λ _. byteIf end (ret (listed 0 0 [])) (pairs 32767 end type value 0 [])
+pairList end type value = eatWs >>= λ _. byteIf end (ret (listed 0 0 [])) (commaList listTurns 2 end (pairChild type value) 0 [])
 
 unfoldable pub aggregate : ℕ → ℕ → Prog TypeOut → Prog (List ℕ) → Prog (List ℕ)
 aggregate kind end type value = do
@@ -125,14 +120,14 @@ packedConst i type value =
       l ← pairList (byte "}") type value
       _ ← expectToken (byte ">")
       ret (node kStructConst 0 (countOf l) (wordsOf l)))
-    (fail 6 i)
+    (fail qValue i)
 
 -- `parse_gep_flags`: 1 where `inbounds` is among them
 unfoldable pub parseGepFlags : ℕ → ℕ → Prog ℕ
 parseGepFlags zero inbounds = ret inbounds
 parseGepFlags (suc u) inbounds = do
   _ ← eatWs
-  wordIf (bytes "inbounds") (parseGepFlags u 1)
+  wordIf (bytes "inbounds") (parseGepFlags u dInbounds)
       (wordIf (bytes "nuw") (parseGepFlags u inbounds)
       (wordIf (bytes "nusw") (parseGepFlags u inbounds)
       (wordIf (bytes "inrange") (skipParens >>= λ _. parseGepFlags u inbounds)
@@ -140,25 +135,24 @@ parseGepFlags (suc u) inbounds = do
 
 -- the indices of a constant getelementptr, from before the comma through the `)`; base type, type and value of the base stand before them
 unfoldable pub gepIndices : ℕ → Prog TypeOut → Prog (List ℕ) → ℕ → List ℕ → Prog Listed
-gepIndices zero type value n acc =
-    tokenIf (byte ",") (skipKeyword (bytes "inrange") >>= λ _. overType type) (byteIf (byte ")") (ret (listed n 0 acc)) (refuse 3))
+gepIndices zero type value n acc = refuse qChildren
 gepIndices (suc u) type value n acc =
-    tokenIf (byte ",")
+    commaOr (byte ")")
     (do
       _ ← skipKeyword (bytes "inrange")
-      x ← pairWith type value
+      x ← pairChild type value n
       gepIndices u type value (n + 2) (acc ++ x))
-    (byteIf (byte ")") (ret (listed n 0 acc)) (refuse 3))
+    (ret (listed n 0 acc))
 
 -- `parse_ce_gep`, behind the word
 unfoldable pub parseCeGep : Prog TypeOut → Prog (List ℕ) → Prog (List ℕ)
 parseCeGep type value = do
   inbounds ← parseGepFlags turns 0
   _ ← expectToken (byte "(")
-  t ← whole 3 type
+  t ← whole qToken type
   _ ← expectToken (byte ",")
   x ← pairWith type value
-  l ← gepIndices 32766 type value 3 []
+  l ← gepIndices listTurns type value 3 []
   ret (node kGepExpr inbounds (countOf l) ((t ++ x) ++ wordsOf l))
 
 -- a conversion of a constant, behind the word (`parse_ce_conv_body`)
@@ -167,7 +161,7 @@ parseCeConv op type value = do
   _ ← expectToken (byte "(")
   x ← pairWith type value
   _ ← expectKeyword (bytes "to")
-  t ← whole 3 type
+  t ← whole qToken type
   _ ← expectToken (byte ")")
   ret (node kConvExpr op 3 (x ++ t))
 
@@ -187,7 +181,7 @@ constExprs type value =
     wordIf (bytes "getelementptr") (parseCeGep type value)
     (rankIf convOps (λ op. parseCeConv op type value)
     (rankIf binOps (λ op. parseCeBin op type value)
-    (refuse 6)))
+    (refuse qValue)))
 
 -- "A value holds typed values, each of which holds a value": what a value of one level more holds
 unfoldable pub valueWith : Prog TypeOut → Prog (List ℕ) → Prog (List ℕ)
@@ -202,7 +196,7 @@ valueWith type value = do
 
 -- `parse_value`, where d levels are left; types and values share the count
 unfoldable pub parseValue : ℕ → Prog (List ℕ)
-parseValue zero = eatWs >>= λ _. refuse 16
+parseValue zero = eatWs >>= λ _. refuse qDepth
 parseValue (suc d) = valueWith (parseType d) (parseValue d)
 
 unfoldable pub parseTypedVal : ℕ → Prog (List ℕ)

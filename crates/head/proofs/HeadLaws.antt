@@ -1,4 +1,4 @@
--- The laws of the head's programs.
+-- The laws of the head's programs: what is read pays for the words that are written, and those that it does not pay for are paid beforehand.
 -- Assumes nothing.
 use mathlib.Core.Path.{_≡_, refl, sym, ap, _∙_, subst}
 use mathlib.Core.List.{List, [], _∷_, _++_}
@@ -9,23 +9,29 @@ use native.Mathlib.Numerals.{add-one}
 use lib.ListN.{length, drop, set, length-drop}
 use lib.Dec.{ltb, eqb}
 use borrow.Author.Tests.{eqb-true, ltb-true}
+use Rattle.program.specs.Choice.{pick}
 use Rattle.program.specs.Class.{classOf, isWord}
-use Rattle.program.specs.Prog.{Prog, ret, last, Res, ok, closed, no-at, run, _>>=_, byteAt, leadWord, scanLen, next, run-bind}
+use Rattle.program.specs.Prog.{Prog, ret, last, Res, ok, closed, no-at, run, _>>=_, byteAt, leadWord, scanLen}
+use Rattle.program.specs.Local.{next, run-bind}
 use Rattle.records.specs.Words.{node}
 use Rattle.records.specs.Piece.{headOf, headRead}
-use Rattle.grammar.specs.Lexer.{refuse, eatWs, spaceStep, isByte, byteIf, eatN, rank, rankIf, expectToken, threeDots, nameWord, parseGlobalName}
+use Rattle.grammar.specs.Lexer.{refuse, eatWs, spaceStep, isByte, byteIf, eatN, rank, rankIf, tokenIf, nameWord, parseGlobalName}
 use Rattle.grammar.specs.Attributes.{linkages, parseLinkage, skipAttrs}
-use Rattle.grammar.specs.Types.{Listed, listed, TypeOut, whole, wholeOf}
-use Rattle.grammar.specs.Body.{paramOf, parseParam, paramItems, parseHead}
-use Rattle.grammar.specs.Again.{headAt}
-use Rattle.lexer.specs.Step.{looksP, passed, refused, headerOf, closes}
-use Rattle.lexer.specs.Reads.{Budget, At, Ends, at, out, Leads, Goal, made, same, Reached, there, gone, reach, Gave, got, not as refuses, Gives}
+use Rattle.grammar.specs.Types.{Listed, listed, TypeOut, room, child, whole, wholeOf, behind, commaOr, dotsList}
+use Rattle.grammar.specs.Body.{paramOf, parseParam, parseHead}
+use Rattle.grammar.specs.Function.{headAt}
+use Rattle.lexer.specs.Step.{looksP, passed, countedP}
+use Rattle.writer.specs.Writes.{headerOf, closes}
+use Rattle.lexer.specs.Reads.{Budget, At, Ends, at, out, Leads, Goal, made, same, Reached, there, gone, reach, Gave, got, not as refuses, Gives, Came, on, off, Comes, Inside}
 use Rattle.lexer.specs.declared.Cursor.{Cursor}
 use Rattle.lexer.specs.declared.Parsed.{Parsed}
-use Rattle.lexer.specs.declared.Parsed.the-variants.{Ok}
-use Rattle.lexer.proofs.Laws.{true-false, after, bind-at, at-less, at-place, at-part, at-whole, at-close, some-byte, pass-in, val, byte-yes, byte-no, dots-yes, dots-no, done, fail-is, more, no-more}
+use Rattle.lexer.specs.declared.Parsed.the-variants.{Ok, Refused}
+use Rattle.lexer.proofs.Laws.{Passes, true-false, after, bind-at, at-less, at-place, at-part, at-whole, some-byte, pass-in, val}
+use Rattle.writer.proofs.Laws.{at-close}
+use Rattle.names.proofs.Passed.{passes-any, passes-refuse, passes-byte, passes-then}
+use Rattle.lexer.proofs.Children.{nest, g-room, in-room}
 use Rattle.types.specs.Reading.{TypeEnds, read, back, none, typed}
-use Rattle.types.proofs.TypeLaws.{Stuck, space-run, byte-run-no, fail-run, attrs-run, stuck-out}
+use Rattle.types.proofs.TypeLaws.{Stuck, space-run, byte-run-no, fail-run, attrs-run, stuck-comma, stuck-room, comma-stop, dots-turn}
 use Rattle.directory.specs.Piece.{HeadIs, is-head, no-head}
 use Rattle.head.specs.Reading.{ParamEnds, read as has, back as stops, none as bad-one, parameter, Shut, shut, bad, shuts, pieceOf}
 
@@ -107,37 +113,49 @@ param-then {B} {f} q d h {c} {mid} {E} {text} {p0} {p} {p1} {p′} {w} {w1} {w�
     go b low k a t (stops {ws = ws} {cur = cur} i x) = subst (λ (z : Res B). E .ends b k low z p′ w′) (st ws (cur .at) (drop (cur .at) text) x) (t ws .runs b low k cur refl (at-whole a i))
     go b low k a t (bad-one {e = e} {x = x}) = rw (t [] .hands e x refl) (E .outs b k low e x w′)
 
--- ---- the list of parameters: white space and no dots, or dots
-module _ {text : List ℕ} {p0 q q1 : Parsed} {v : List ℕ} (u n : ℕ) (gw : Gives eatWs tt text q q1) (ws : List ℕ) where
-  pub params-dots : {z : Bool} {q2 q3 : Parsed} → z ≡ looksP text q1 46 → z ≡ true → Gives (threeDots 5) tt text q1 q2 → Gives (expectToken 41) tt text q2 q3 → Leads (paramItems u n ws) 2 ws (made (listed n 1) text p0) text p0 q v q3 v
-  unfolding paramItems
-  params-dots {z} {q2} {q3} l y d x = go u
-    where
-      go : (u : ℕ) → Leads (paramItems u n ws) 2 ws (made (listed n 1) text p0) text p0 q v q3 v
-      go zero = val _ gw (dots-yes _ _ l y d (val _ x done))
-      go (suc u) = val _ gw (dots-yes _ _ l y d (val _ x done))
+-- as a child, then the rest
+param-child : {B : Type 0} (n : ℕ) (h : List ℕ → Prog B) {mid : List ℕ} {E : Goal B} {text : List ℕ} {p0 p p1 q1 p′ : Parsed} {w w1 w′ : List ℕ} → ((e : ℕ) → Leads (parseParam e) 2 [] (parameter e text p) text p p w p1 w1) → q1 ≡ countedP n p1 → Stuck 3 h → ((e i : ℕ) → q1 ≡ Refused e i → p′ ≡ Refused e i) → ((ws : List ℕ) → n < 65535 → Leads (h ws) 0 (mid ++ ws) E text p0 q1 w1 p′ w′) → Leads (child n (parseParam (behind n 3)) >>= h) 2 mid E text p0 p w p′ w′
+unfolding child
+param-child n h {p1 = p1} r x st hd s = nest (parseParam (behind n 3)) (room n) h (param-then (behind n 3) 2 _ {c = 0} (r (behind n 3)) (stuck-room n 3 h st) (λ t. val _ (g-room n x) (in-room n p1 x hd (s t))))
 
-  module _ {q2 : Parsed} {v1 : List ℕ} {z : Bool} (l : z ≡ looksP text q1 46) (y : z ≡ false) (r : (e : ℕ) → Leads (parseParam e) 2 [] (parameter e text q1) text q1 q1 v q2 v1) where
-    pub params-out : {E : Goal Listed} {q3 : Parsed} → u ≤ 0 → q3 ≡ refused 19 q2 → Leads (paramItems u n ws) 2 ws E text p0 q v q3 v1
-    unfolding paramItems
-    params-out h x = no-more (λ z. paramItems z n ws) u h (val _ gw (dots-no _ _ l y (param-then 19 2 _ {c = 0} (r 19) stuck-out (λ t. fail-is _ x))))
+-- ---- a comma, which pays for three words
+passes-comma : (end : ℕ) → Passes 1 (commaOr end (ret (listed 0 0 [])) (refuse 3))
+unfolding commaOr tokenIf
+passes-comma end = passes-then eatWs _ 0 1 (passes-any _) (λ u. passes-byte 44 0 (passes-any _) (passes-byte end 0 (passes-refuse 0 3) (passes-refuse 1 3)))
 
-    module _ {q3 : Parsed} (pos : 0 < u) (gv : Gives eatWs tt text q2 q3) where
-      turn : {E : Goal Listed} {q4 : Parsed} {v4 : List ℕ} → ((t : List ℕ) → Leads (byteIf 44 (paramItems (u - 1) (n + 1) (ws ++ t)) (byteIf 41 (ret (listed (n + 1) 0 (ws ++ t))) (refuse 3))) 0 (ws ++ t) E text p0 q3 v1 q4 v4) → Leads (paramItems u n ws) 2 ws E text p0 q v q4 v4
-      unfolding paramItems
-      turn k = more (λ z. paramItems z n ws) u pos (val _ gw (dots-no _ _ l y (param-then 3 2 _ {c = 0} (r 3) stuck (λ t. val _ gv (k t)))))
-        where
-          stuck : Stuck 3 (λ t. eatWs >>= λ _. byteIf 44 (paramItems (u - 1) (n + 1) (ws ++ t)) (byteIf 41 (ret (listed (n + 1) 0 (ws ++ t))) (refuse 3)))
-          stuck t i s e = space-run _ i s e ∙ byte-run-no 44 _ _ i s (λ z. omega arith) e ∙ byte-run-no 41 _ _ i s (λ z. omega arith) e ∙ fail-run 3 i s
+comma-far : (text : List ℕ) (l : Listed) (i w : ℕ) {z : Res Listed} {y : Parsed} → Came text (ret l) i w z y → ((j : ℕ) (a : Listed) → z ≡ ok a j → i + 1 ≤ j) → (cur : Cursor) → y ≡ Ok cur → i + 1 ≤ cur .at
+unfolding run
+comma-far text l i w (on {cur = c} a b d) v cur o = let e : c ≡ cur = cc in rw (← e) (v (c .at) l refl)
+comma-far text l i w off v cur o = absurd (let z : _≡_ {A = ℕ} 0 1 = cc in omega arith)
 
-      pub params-more : {z2 : Bool} {q4 : Parsed} (m : ℕ) → m ≡ n + 1 → z2 ≡ looksP text q3 44 → z2 ≡ true → q4 ≡ passed text 1 q3 → Leads (paramItems u n ws) 2 ws (paying 2 (reach (paramItems (u - 1) m) text p0)) text p0 q v q4 v1
-      params-more {z2} {q4} m e l y x = turn (λ t. byte-yes _ _ l y x (subst (λ (j : ℕ). Leads (paramItems (u - 1) j (ws ++ t)) 3 (ws ++ t) (paying 2 (reach (paramItems (u - 1) m) text p0)) text p0 q4 v1 q4 v1) e (stay-paid 2 (paramItems (u - 1) m) (omega arith))))
+comma-paid : (end : ℕ) {text : List ℕ} {q q3 : Parsed} {b : Bool} → ((x y : Prog Listed) → Comes (commaOr end x y) (pick b x y) text q q3) → {c : ℕ} {mid : List ℕ} {E : Goal Listed} {p0 p′ : Parsed} {w w′ : List ℕ} (f g : Prog Listed) → b ≡ true → Leads f (c + 3) mid E text p0 q3 w p′ w′ → Leads (commaOr end f g) c mid E text p0 q w p′ w′
+comma-paid end {text} {q} {q3} {b} cm {c} {mid} {E} {p0} {p′} {w} {w′} f g y r = record {
+  runs = λ o low k cur e i.
+      let h : Inside text cur = record { inside = i .inside; small = i .small } in
+      go o low k i (comma-far text (listed 0 0 []) (cur .at) (cur .w) (goes (ret (listed 0 0 [])) (refuse 3) .runs cur e h) (λ j a t. passes-comma end .over (cur .at) j (drop (cur .at) text) a t)) r (goes f g .runs cur e h);
+  hands = λ e x i. r .hands e x (cm f g .hands e x i);
+}
+  where
+    goes : (x y : Prog Listed) → Comes (commaOr end x y) x text q q3
+    goes x z = subst (λ (t : Bool). Comes (commaOr end x z) (pick t x z) text q q3) y (cm x z)
 
-      pub params-end : {z2 z3 : Bool} {q4 : Parsed} (m : ℕ) → m ≡ n + 1 → z2 ≡ looksP text q3 44 → z2 ≡ false → z3 ≡ looksP text q3 41 → z3 ≡ true → q4 ≡ passed text 1 q3 → Leads (paramItems u n ws) 2 ws (made (listed m 0) text p0) text p0 q v q4 v1
-      params-end {z2} {z3} {q4} m e l y l2 y2 x = turn (λ t. byte-no _ _ l y (byte-yes _ _ l2 y2 x (subst (λ (j : ℕ). Leads (ret (listed j 0 (ws ++ t))) 3 (ws ++ t) (made (listed m 0) text p0) text p0 q4 v1 q4 v1) e done)))
+    go : (o : Budget) (low : List ℕ) (k : ℕ) {cur : Cursor} → At o text p0 (c + k) low mid cur w → {z : Res Listed} {a : Parsed} → ((c2 : Cursor) → a ≡ Ok c2 → cur .at + 1 ≤ c2 .at) → Leads f (c + 3) mid E text p0 a w p′ w′ → Came text f (cur .at) (cur .w) z a → E .ends o k low z p′ w′
+    go o low k i far t (on {cur = c2} l x e) = t .runs o low k c2 refl (subst (λ (u : ℕ). At o text p0 (c + 3 + k) low mid (record { at = c2 .at; w = u }) w) (sym e) (at-place (c2 .at) (c + 3 + k) l x (omega (arith, far c2 refl)) i))
+    go o low k i far t (off {e = e} {q = n}) = rw (t .hands e n refl) (E .outs o k low e n w′)
 
-      pub params-bad : {E : Goal Listed} {z2 z3 : Bool} {q4 : Parsed} → z2 ≡ looksP text q3 44 → z2 ≡ false → z3 ≡ looksP text q3 41 → z3 ≡ false → q4 ≡ refused 3 q3 → Leads (paramItems u n ws) 2 ws E text p0 q v q4 v1
-      params-bad l y l2 y2 x = turn (λ t. byte-no _ _ l y (byte-no _ _ l2 y2 (fail-is _ x)))
+-- ---- the list of parameters
+abbrev pub paramsOf : ℕ → ℕ → List ℕ → Prog Listed
+paramsOf u n ws = dotsList u 1 1 5 (λ n. child n (parseParam (behind n 3))) n ws
+
+module _ {text : List ℕ} {p0 q q1 q2 q3 q4 : Parsed} {v v1 : List ℕ} (u n m : ℕ) (pos : 0 < u) (gw : Gives eatWs tt text q q1) {z : Bool} (l : z ≡ looksP text q1 46) (y : z ≡ false) (r : (e : ℕ) → Leads (parseParam e) 2 [] (parameter e text q1) text q1 q1 v q2 v1) (x : q3 ≡ countedP n q2) (e : n < 65535 → m ≡ n + 1) (ws : List ℕ) where
+  turn : {E : Goal Listed} → ((i j : ℕ) → q3 ≡ Refused i j → q4 ≡ Refused i j) → ((t : List ℕ) → n < 65535 → Leads (commaOr 41 (paramsOf (u - 1) (n + 1) (ws ++ t)) (ret (listed (n + 1) 0 (ws ++ t)))) 0 (ws ++ t) E text p0 q3 v1 q4 v1) → Leads (paramsOf u n ws) 2 ws E text p0 q v q4 v1
+  turn hd k = dots-turn u 1 1 5 n _ ws pos gw l y (param-child n _ r x (stuck-comma 41 _ _ (λ z. omega arith)) hd k)
+
+  pub params-more : {b : Bool} → ((x y : Prog Listed) → Comes (commaOr 41 x y) (pick b x y) text q3 q4) → b ≡ true → Leads (paramsOf u n ws) 2 ws (paying 2 (reach (paramsOf (u - 1) m) text p0)) text p0 q v q4 v1
+  params-more cm o = turn (cm (refuse 3) (refuse 3) .hands) (λ t lt. comma-paid 41 cm _ _ o (subst (λ (j : ℕ). Leads (paramsOf (u - 1) j (ws ++ t)) 3 (ws ++ t) (paying 2 (reach (paramsOf (u - 1) m) text p0)) text p0 q4 v1 q4 v1) (e lt) (stay-paid 2 (paramsOf (u - 1) m) (omega arith))))
+
+  pub params-end : {b : Bool} → ((x y : Prog Listed) → Comes (commaOr 41 x y) (pick b x y) text q3 q4) → b ≡ false → Leads (paramsOf u n ws) 2 ws (made (listed m 0) text p0) text p0 q v q4 v1
+  params-end cm o = turn (cm (refuse 3) (refuse 3) .hands) (λ t lt. comma-stop 41 cm _ m (e lt) (ws ++ t) _ o)
 
 -- ---- the linkage's rank
 eaten : (n a i j v : ℕ) (s : List ℕ) → run (eatN n (ret a)) i s ≡ ok v j → a ≡ v

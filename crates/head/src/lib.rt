@@ -9,7 +9,7 @@ ghost use Prim.Native.Nat.{ℕ, _≤_, _<_};
 ghost use lib.ListN.{length};
 ghost use Rattle.grammar.specs.Types.{listed};
 ghost use Rattle.grammar.specs.Body.{parseParam, parseParamList, parseHead};
-ghost use Rattle.grammar.specs.Again.{headAt};
+ghost use Rattle.grammar.specs.Function.{headAt};
 ghost use Rattle.lexer.specs.Table.{Classes};
 ghost use Rattle.lexer.specs.Reads.{Leads, made};
 ghost use Rattle.directory.specs.Piece.{HeadIs};
@@ -20,19 +20,19 @@ fn parse_param(classes: &[u8; 256], text: &[u8], words: &mut [u64], p: Parsed) -
     requires { ⌜ Classes (now classes) ⌝ }
     ensures { λ r. ⌜ ((q : ℕ) → Leads (parseParam q) 2 [] (parameter q (now (text .entry)) p) (now (text .entry)) p p (now (words .entry)) r (now (words .exit))) ⌝ }
 {
-    let p1 = lexer::push(words, p, 0);
-    let p2 = lexer::push(words, p1, 0);
-    let p3 = types::parse_type(classes, text, words, p2, 64);
+    let p1 = writer::push(words, p, 0);
+    let p2 = writer::push(words, p1, 0);
+    let p3 = types::parse_type(classes, text, words, p2, records::DEPTH_LIMIT);
     let p4 = attributes::skip_attrs(classes, text, p3);
     let p5 = lexer::eat_ws(classes, text, p4);
-    if lexer::looks(text, p5, 37) {
+    if lexer::looks(text, p5, b'%') {
         let p6 = lexer::pass(text, p5, 1);
-        let n = lexer::name_word(classes, text, p6);
+        let n = names::name_word(classes, text, p6);
         let p7 = n.p;
-        let p8 = lexer::patch(words, p, p7, 1, n.v);
-        return lexer::close(words, p, p8, 62, 1, 1);
+        let p8 = writer::patch(words, p, p7, 1, n.v);
+        return writer::close(words, p, p8, records::K_PARAM, records::D_NAMED, 1);
     }
-    lexer::close(words, p, p5, 62, 0, 1)
+    writer::close(words, p, p5, records::K_PARAM, 0, 1)
 }
 
 // Parameters, `...` in the last place, through the parenthesis (`parse_param_list`). The return type is a child before them.
@@ -41,7 +41,7 @@ fn parse_param_list(classes: &[u8; 256], text: &[u8], words: &mut [u64], p: Pars
     ensures { λ r. ⌜ Leads parseParamList 2 [] (made (listed (r .n) (r .dots)) (now (text .entry)) p) (now (text .entry)) p p (now (words .entry)) (r .p) (now (words .exit)) × (r .dots ≤ 1) ⌝ }
 {
     let mut q = lexer::eat_ws(classes, text, p);
-    if lexer::looks(text, q, 41) {
+    if lexer::looks(text, q, b')') {
         let q1 = lexer::pass(text, q, 1);
         return Listed {
             p: q1,
@@ -49,52 +49,28 @@ fn parse_param_list(classes: &[u8; 256], text: &[u8], words: &mut [u64], p: Pars
             dots: 0,
         };
     }
-    let mut left: u16 = 65534;
+    let mut left: usize = records::LIST_TURNS;
     let mut n: u16 = 1;
     while 0 < left {
         let q1 = lexer::eat_ws(classes, text, q);
-        if lexer::looks(text, q1, 46) {
-            let q2 = lexer::three_dots(text, q1, 5);
-            let q3 = lexer::expect_token(classes, text, q2, 41);
+        if lexer::looks(text, q1, b'.') {
+            let q2 = names::three_dots(text, q1, records::Q_TYPE);
+            let q3 = lexer::expect_token(classes, text, q2, b')');
             return Listed { p: q3, n, dots: 1 };
         }
         let q2 = parse_param(classes, text, words, q1);
-        let q3 = lexer::eat_ws(classes, text, q2);
-        if lexer::looks(text, q3, 44) {
-            q = lexer::pass(text, q3, 1);
+        let q3 = lexer::count_child(q2, n);
+        let e = lexer::comma_or(classes, text, q3, b')');
+        n = types::one_more(n);
+        q = e.p;
+        if e.more {
             left -= 1;
-            n = types::one_more(n);
         } else {
-            if lexer::looks(text, q3, 41) {
-                let q4 = lexer::pass(text, q3, 1);
-                let m = types::one_more(n);
-                return Listed {
-                    p: q4,
-                    n: m,
-                    dots: 0,
-                };
-            }
-            let q4 = lexer::refuse(q3, 3);
-            return Listed {
-                p: q4,
-                n: 1,
-                dots: 0,
-            };
+            return Listed { p: q, n, dots: 0 };
         }
     }
-    let q1 = lexer::eat_ws(classes, text, q);
-    if lexer::looks(text, q1, 46) {
-        let q2 = lexer::three_dots(text, q1, 5);
-        let q3 = lexer::expect_token(classes, text, q2, 41);
-        return Listed { p: q3, n, dots: 1 };
-    }
-    let q2 = parse_param(classes, text, words, q1);
-    let q3 = lexer::refuse(q2, 19);
-    Listed {
-        p: q3,
-        n: 1,
-        dots: 0,
-    }
+    let q1 = lexer::refuse(q, records::Q_CHILDREN);
+    Listed { p: q1, n, dots: 0 }
 }
 
 // A linkage's rank as a byte.
@@ -104,7 +80,7 @@ fn rank_byte(rank: usize) -> u8
     if rank < 11 {
         return rank as u8;
     }
-    10
+    records::NO_LINKAGE
 }
 
 // The head, through the `{`. The name's word stands before the type's, so its slot is filled behind the type.
@@ -112,30 +88,30 @@ fn head_node(classes: &[u8; 256], text: &[u8], words: &mut [u64], p: Parsed) -> 
     requires { ⌜ Classes (now classes) ⌝ }
     ensures { λ r. ⌜ Leads parseHead 2 [] (shuts (now (text .entry)) p) (now (text .entry)) p p (now (words .entry)) r (now (words .exit)) ⌝ }
 {
-    let p1 = lexer::push(words, p, 0);
-    let p2 = lexer::push(words, p1, 0);
+    let p1 = writer::push(words, p, 0);
+    let p2 = writer::push(words, p1, 0);
     let k = attributes::parse_linkage(classes, text, p2);
     let linkage = rank_byte(k.r);
     let p3 = k.p;
     let p4 = attributes::skip_attrs(classes, text, p3);
     let p5 = attributes::skip_call_cconv(classes, text, p4);
     let p6 = attributes::skip_attrs(classes, text, p5);
-    let p7 = types::parse_type(classes, text, words, p6, 64);
-    let name = lexer::parse_global_name(classes, text, p7);
+    let p7 = types::parse_type(classes, text, words, p6, records::DEPTH_LIMIT);
+    let name = names::parse_global_name(classes, text, p7);
     let p8 = name.p;
-    let p9 = lexer::patch(words, p, p8, 1, name.v);
-    let p10 = lexer::expect_token(classes, text, p9, 40);
+    let p9 = writer::patch(words, p, p8, 1, name.v);
+    let p10 = lexer::expect_token(classes, text, p9, b'(');
     let l = parse_param_list(classes, text, words, p10);
     let p11 = l.p;
     let dots = l.dots;
     let p12 = attributes::skip_attrs(classes, text, p11);
     let p13 = lexer::eat_ws(classes, text, p12);
-    if lexer::looks(text, p13, 123) {
+    if lexer::looks(text, p13, b'{') {
         let p14 = lexer::pass(text, p13, 1);
-        let detail = linkage + 128 * dots;
-        return lexer::close(words, p, p14, 60, detail, l.n);
+        let detail = linkage + records::D_VARARGS * dots;
+        return writer::close(words, p, p14, records::K_HEAD, detail, l.n);
     }
-    lexer::refuse(p13, 3)
+    lexer::refuse(p13, records::Q_TOKEN)
 }
 
 // The answer of a piece that is closed.

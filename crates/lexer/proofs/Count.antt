@@ -1,9 +1,9 @@
--- Numbers: one digit more, and the digits at a place.
+-- Numbers: one digit more, and the digits at a place. A number over 64 bits stays over with each digit, so that it need not be kept.
 -- Assumes nothing.
-use mathlib.Core.Path.{_≡_, refl, sym, ap, _∙_, subst}
+use mathlib.Core.Path.{_≡_, refl, sym, ap, _∙_}
 use mathlib.Core.List.{List, [], _∷_}
 use mathlib.Core.Bool.{Bool, true, false, _&&_}
-use mathlib.Core.Option.{Option, none, some}
+use mathlib.Core.Option.{none, some}
 use Prim.Native.Nat.{ℕ, zero, suc, _+_, _-_, _*_, _≤_, _<_}
 use native.Mathlib.Omega.{arith}
 use lib.ListN.{length, getD, take, drop, drop-of-length-le}
@@ -11,57 +11,77 @@ use lib.Dec.{leb, eqb}
 use borrow.Author.Tests.{le-leb, lt-leb, leb-true, leb-false, eq-eqb, ne-eqb}
 use Rattle.program.specs.Choice.{pick}
 use Rattle.program.specs.Class.{classOf}
-use Rattle.program.specs.Prog.{Prog, ret, scan, Res, ok, no-at, run, _>>=_, scanLen, scanLen-le}
+use Rattle.program.specs.Prog.{ret, ok, no-at, run, _>>=_, scanLen}
+use Rattle.program.specs.Local.{scanLen-le}
 use Rattle.grammar.specs.Lexer.{refuse}
 use Rattle.grammar.specs.Numbers.{digitStep, digits, valueOf, numberOf, parseInt}
-use Rattle.lexer.specs.Step.{stepCode}
-use Rattle.lexer.specs.Names.{taken}
-use Rattle.lexer.specs.Number.{capped, Shifted, Added, NumAt}
-use Rattle.lexer.specs.declared.Digits.{Digits}
+use Rattle.records.specs.Limits.{numberLimit}
+use Rattle.lexer.specs.Step.{stepCode, taken}
+use Rattle.lexer.specs.Number.{capped, shifted, added, NumAt}
 use Rattle.lexer.specs.declared.Val.{Val}
 use Rattle.lexer.specs.declared.Val.the-variants.{Exact, Over}
 use Rattle.lexer.proofs.Scan.{drop-next, scan-more, scan-stop, scan-out, stops, goes}
 use Rattle.lexer.proofs.Laws.{scan-run}
 
 -- ---- numbers of 64 bits, or over them
-small : (a : ℕ) → a ≤ 18446744073709551615 → capped a ≡ Exact a
+small : (a : ℕ) → a ≤ numberLimit → capped a ≡ Exact a
 unfolding capped
 small a h = rw (le-leb _ _ h)
 
-big : (a : ℕ) → 18446744073709551615 < a → capped a ≡ Over
+big : (a : ℕ) → numberLimit < a → capped a ≡ Over
 unfolding capped
 big a h = rw (lt-leb _ _ h)
 
 pub exact-of : (a v : ℕ) → Exact v ≡ capped a → v ≡ a
 unfolding capped
-exact-of a v e = go (leb a 18446744073709551615) e
+exact-of a v e = go (leb a numberLimit) e
   where
     go : (z : Bool) → Exact v ≡ pick z (Exact a) Over → v ≡ a
     go true e = cc
     go false e = cc
 
-pub over-of : (a : ℕ) → Over ≡ capped a → 18446744073709551615 < a
+pub over-of : (a : ℕ) → Over ≡ capped a → numberLimit < a
 unfolding capped
-over-of a e = go (leb a 18446744073709551615) refl e
+over-of a e = go (leb a numberLimit) refl e
   where
-    go : (z : Bool) → leb a 18446744073709551615 ≡ z → Over ≡ pick z (Exact a) Over → 18446744073709551615 < a
+    go : (z : Bool) → leb a numberLimit ≡ z → Over ≡ pick z (Exact a) Over → numberLimit < a
     go true f e = absurd (let q : _≡_ {A = ℕ} 0 1 = cc in omega arith)
     go false f e = leb-false _ _ f
 
-pub shift-fits : (n : Val) (v d : ℕ) → n ≡ Exact v → v * 10 + d ≤ 18446744073709551615 → Shifted n d (Exact (v * 10 + d))
-shift-fits n v d e h = record { more = λ a f. let g : v ≡ a = exact-of a v (sym e ∙ f) in subst (λ (z : ℕ). Exact (v * 10 + d) ≡ capped (z * 10 + d)) g (sym (small _ h)) }
+-- the steps of `shift`
+pub shift-fits : (n : Val) (v d : ℕ) → n ≡ Exact v → v * 10 + d ≤ numberLimit → Exact (v * 10 + d) ≡ shifted n d
+unfolding shifted
+shift-fits n v d e h = rw e (sym (small _ h))
 
-pub shift-over : (n : Val) (v d : ℕ) → n ≡ Exact v → 18446744073709551615 < v * 10 + d → Shifted n d Over
-shift-over n v d e h = record { more = λ a f. let g : v ≡ a = exact-of a v (sym e ∙ f) in subst (λ (z : ℕ). Over ≡ capped (z * 10 + d)) g (sym (big _ h)) }
+pub shift-over : (n : Val) (v d : ℕ) → n ≡ Exact v → numberLimit < v * 10 + d → Over ≡ shifted n d
+unfolding shifted
+shift-over n v d e h = rw e (sym (big _ h))
 
-pub shift-still : (n : Val) (d : ℕ) → n ≡ Over → Shifted n d Over
-shift-still n d e = record { more = λ a f. sym (big _ (omega (arith, over-of a (sym e ∙ f)))) }
+pub shift-still : (n : Val) (d : ℕ) → n ≡ Over → Over ≡ shifted n d
+unfolding shifted
+shift-still n d e = rw e
 
-pub add-none : (n : Val) (x : ℕ) → x ≡ 95 → Added n x n
-add-none n x e = record { more = λ a h. rw (eq-eqb _ _ e) h }
+-- a digit more of what is held is a digit more of the number
+pub shifted-more : (v d : ℕ) → shifted (capped v) d ≡ capped (v * 10 + d)
+unfolding shifted
+shifted-more v d = go (leb v numberLimit) refl
+  where
+    go : (t : Bool) → leb v numberLimit ≡ t → shifted (capped v) d ≡ capped (v * 10 + d)
+    go true e = rw (small v (leb-true v numberLimit e))
+    go false e = rw (big v (leb-false v numberLimit e)) (sym (big (v * 10 + d) (omega (arith, leb-false v numberLimit e))))
 
-pub add-some : (n r : Val) (x d : ℕ) → (x ≡ 95 → ⊥) → d ≡ classOf x → Shifted n d r → Added n x r
-add-some n r x d e f s = record { more = λ a h. rw (ne-eqb _ _ e, ← f) (s .more a h) }
+pub add-none : (n : Val) (x : ℕ) → x ≡ 95 → n ≡ added n x
+add-none n x e = rw (eq-eqb _ _ e)
+
+pub add-some : (n r : Val) (x d : ℕ) → (x ≡ 95 → ⊥) → d ≡ classOf x → r ≡ shifted n d → r ≡ added n x
+add-some n r x d e f s = rw (ne-eqb _ _ e, ← f) s
+
+added-more : (a x : ℕ) → added (capped a) x ≡ capped (pick (eqb x 95) a (a * 10 + classOf x))
+added-more a x = go (eqb x 95)
+  where
+    go : (z : Bool) → pick z (capped a) (shifted (capped a) (classOf x)) ≡ capped (pick z a (a * 10 + classOf x))
+    go true = refl
+    go false = shifted-more a (classOf x)
 
 -- ---- the digits up to a place are read
 taken-more : (s : List ℕ) (i q r : ℕ) → i < length s → r ≡ stepCode (digitStep q (getD s i 0)) → (r ≡ 0 → ⊥) → taken digitStep q (drop i s) ≡ getD s i 0 ∷ taken digitStep (r - 1) (drop (i + 1) s)
@@ -89,11 +109,11 @@ pub record Counts (text : List ℕ) (at i q : ℕ) (val : Val) : Type 0 where
 pub count-none : (text : List ℕ) (at : ℕ) → Counts text at at 0 (Exact 0)
 count-none text at = record { acc = 0; means = sym (small 0 (omega arith)); worth = refl; place = refl }
 
-pub count-more : (text : List ℕ) (at i q s : ℕ) (val r : Val) → i < length text → s ≡ stepCode (digitStep q (getD text i 0)) → (s ≡ 0 → ⊥) → Counts text at i q val → Added val (getD text i 0) r → Counts text at (i + 1) (s - 1) r
+pub count-more : (text : List ℕ) (at i q s : ℕ) (val r : Val) → i < length text → s ≡ stepCode (digitStep q (getD text i 0)) → (s ≡ 0 → ⊥) → Counts text at i q val → r ≡ added val (getD text i 0) → Counts text at (i + 1) (s - 1) r
 unfolding valueOf
 count-more text at i q s val r h e m n d = record {
   acc = pick (eqb (getD text i 0) 95) (n .acc) (n .acc * 10 + classOf (getD text i 0));
-  means = d .more (n .acc) (n .means);
+  means = d ∙ ap (λ (y : Val). added y (getD text i 0)) (n .means) ∙ added-more (n .acc) (getD text i 0);
   worth = n .worth ∙ ap (valueOf (n .acc)) (taken-more text i q s h e m);
   place = n .place ∙ scan-more digitStep text i q s h e m;
 }
@@ -160,7 +180,7 @@ module _ (text : List ℕ) (lo hi at i : ℕ) (e : i ≡ at + scanLen digitStep 
     fits v w l m = behind ∙ number-fits lo hi i (drop i text) (taken digitStep 0 (drop at text)) nonempty (rw w at l) (rw w at m) ∙ ap (λ (u : ℕ). ok u i) (sym w)
 
     -- over 64 bits
-    pub too-far : 18446744073709551615 < valueOf 0 (taken digitStep 0 (drop at text)) → hi ≤ 18446744073709551615 → run (parseInt lo hi) at (drop at text) ≡ no-at 15 i
+    pub too-far : numberLimit < valueOf 0 (taken digitStep 0 (drop at text)) → hi ≤ numberLimit → run (parseInt lo hi) at (drop at text) ≡ no-at 15 i
     too-far o m = go (leb lo (valueOf 0 (taken digitStep 0 (drop at text)))) refl
       where
         go : (b : Bool) → leb lo (valueOf 0 (taken digitStep 0 (drop at text))) ≡ b → run (parseInt lo hi) at (drop at text) ≡ no-at 15 i

@@ -1,4 +1,5 @@
--- The laws of composition: what a program leads to, from what its parts lead to. Each takes a callee's `ensures` as it stands.
+-- The laws of composition: what a program leads to, from what its parts lead to. Each takes a callee's `ensures` as it stands. They hold
+-- since a run of a composed program is the run of its first part and, from where that ends, of the next (`run-bind`).
 -- Assumes nothing.
 use mathlib.Core.Path.{_≡_, refl, sym, ap, _∙_, subst}
 use mathlib.Core.List.{List, [], _∷_, _++_, append-assoc, append-nil}
@@ -8,21 +9,20 @@ use Prim.Native.Nat.{ℕ, zero, suc, _+_, _-_, _*_, _≤_, _<_}
 use native.Mathlib.Omega.{arith}
 use native.Mathlib.Nat.{add-zero, mul-add, mul-le-mul-left, mul-le-mul-right}
 use native.Mathlib.Numerals.{add-one}
-use lib.Dec.{ltb, leb, eqb}
-use lib.ListN.{length, getD, take, drop, set, length-append, length-drop}
+use lib.Dec.{ltb, eqb}
+use lib.ListN.{length, take, drop, length-drop}
 use lib.Seq.{drop-drop}
 use borrow.Author.Tests.{lt-ltb, le-leb, eqb-true, ltb-true}
 use Rattle.program.specs.Class.{isWord}
-use Rattle.program.specs.Prog.{Prog, ret, fail, look, eat, here, lead, scan, last, Res, ok, closed, no-at, run, _>>=_, byteAt, leadWord, scanLen, scanLen-le, next, run-bind, mono, EndsAt}
-use Rattle.records.specs.Words.{node, header}
+use Rattle.program.specs.Prog.{Prog, ret, fail, eat, here, scan, Res, ok, closed, no-at, run, _>>=_, byteAt, leadWord, scanLen}
+use Rattle.program.specs.Local.{scanLen-le, next, run-bind, mono}
 use Rattle.grammar.specs.Lexer.{eatWs, refuse, place, isByte, byteIf, byteAtIf, sameWord, eatN, wordIf, wordAtIf, tokenIf, threeDots, dotsIf}
-use Rattle.lexer.specs.Step.{bumped, looksP, wordP, passed, refused, refusedAt, pushed, pushes, headerOf, closes, patches, replaced, replaces, placeP}
-use Rattle.lexer.specs.Reads.{Stands, Budget, At, Ends, at, out, Leads, Goal, made, reach, Reached, there, gone as is-gone, same, Inside, Aim, Finds, Gave, got, not, gave, Gives, Came, on, off, came, Comes}
+use Rattle.lexer.specs.Step.{bumped, looksP, wordP, passed, refused, refusedAt, placeP}
+use Rattle.lexer.specs.Reads.{Stands, Budget, At, Ends, at, out, Leads, Goal, made, reach, Reached, there, gone as is-gone, same, Inside, Aim, Finds, Gave, got, not, Gives, Came, on, off, Comes}
 use Rattle.lexer.specs.declared.Cursor.{Cursor}
 use Rattle.lexer.specs.declared.Parsed.{Parsed}
 use Rattle.lexer.specs.declared.Parsed.the-variants.{Ok, Refused}
 use Rattle.lexer.proofs.Scan.{drop-next}
-use Rattle.lexer.proofs.Words.{front, pushed as stands-more, patched}
 
 -- ---- one program after another, in the whole text
 unfoldable pub after : {A B : Type 0} → (A → Prog B) → List ℕ → Res A → Res B
@@ -67,7 +67,7 @@ pays r i j m c e l h =
 
 module _ {b : Budget} {text : List ℕ} {p0 : Parsed} {c : ℕ} {low mid : List ℕ} {cur : Cursor} {words : List ℕ} where
   -- fewer words paid for
-  pub at-less : (m : ℕ) → m ≤ c → At b text p0 c low mid cur words → At b text p0 m low mid cur words
+  unfoldable pub at-less : (m : ℕ) → m ≤ c → At b text p0 c low mid cur words → At b text p0 m low mid cur words
   at-less m h a = record { from = a .from; was = a .was; base = a .base; small = a .small; lid = a .lid; inside = a .inside; count = a .count; paid = omega (arith, a .paid); stands = a .stands }
 
   -- at a place further on, with what the bytes between pay for
@@ -96,86 +96,6 @@ module _ {b : Budget} {text : List ℕ} {p0 : Parsed} {c : ℕ} {low mid : List 
   -- the count of words has not reached its lid
   pub at-small : At b text p0 c low mid cur words → cur .w < 4294967296
   at-small a = omega (arith, a .lid, a .inside, a .count, a .paid, mul-le-mul-left (b .rate) (a .inside))
-
-pub at-push : {b : Budget} {text : List ℕ} {p0 : Parsed} {c : ℕ} {low mid : List ℕ} {cur : Cursor} {words : List ℕ} (x : ℕ) → At b text p0 (suc c) low mid cur words → At b text p0 c low (mid ++ (x ∷ [])) (record { at = cur .at; w = bumped (cur .w) }) (set words (cur .w) x)
-at-push {b} {text} {p0} {c} {low} {mid} {cur} {words} x a =
-    let n : (low ++ mid) ++ (x ∷ []) ≡ low ++ (mid ++ (x ∷ [])) = append-assoc low mid (x ∷ []) in
-    let len : length ((low ++ mid) ++ (x ∷ [])) ≡ length (low ++ mid) + 1 = length-append (low ++ mid) (x ∷ []) in
-    let u : bumped (cur .w) ≡ cur .w + 1 = bump-in (cur .w) (at-small a) in
-    record {
-      from = a .from;
-      was = a .was;
-      base = a .base;
-      small = a .small;
-      lid = a .lid;
-      inside = a .inside;
-      count = subst (λ (l : List ℕ). bumped (cur .w) ≡ length l) n (omega (arith, a .count));
-      paid = subst (λ (l : List ℕ). length l + c ≤ b .base + b .rate * cur .at) n (omega (arith, a .paid));
-      stands = subst (λ (l : List ℕ). Stands l (set words (cur .w) x)) n (rw (a .count) (stands-more (low ++ mid) words x (a .stands)));
-    }
-
--- one word in place of all since p0
-pub at-one : {b : Budget} {text : List ℕ} {p0 : Parsed} {c : ℕ} {low mid : List ℕ} {cur : Cursor} {words : List ℕ} (x : ℕ) (a : At b text p0 (suc c) low mid cur words) → At b text p0 c low (x ∷ []) (record { at = cur .at; w = bumped (a .from .w) }) (set words (a .from .w) x)
-at-one {b} {text} {p0} {c} {low} {mid} {cur} {words} x a =
-    let len : length (low ++ (x ∷ [])) ≡ length low + 1 = length-append low (x ∷ []) in
-    let len2 : length (low ++ mid) ≡ length low + length mid = length-append low mid in
-    let s : a .from .w < 4294967296 = omega (arith, a .base, at-small a, a .count) in
-    let u : bumped (a .from .w) ≡ a .from .w + 1 = bump-in (a .from .w) s in
-    record {
-      from = a .from;
-      was = a .was;
-      base = a .base;
-      small = a .small;
-      lid = a .lid;
-      inside = a .inside;
-      count = omega (arith, a .base);
-      paid = omega (arith, a .paid);
-      stands = rw (a .base) (stands-more low words x (front low mid words (a .stands)));
-    }
-
--- a node's header
-pub at-close : {b : Budget} {text : List ℕ} {p0 : Parsed} {c : ℕ} {low body : List ℕ} {cur : Cursor} {words : List ℕ} (kind d n : ℕ) (a : At b text p0 c low (0 ∷ body) cur words) → At b text p0 c low (node kind d n body) cur (set words (a .from .w) (headerOf kind d n (a .from .w) (cur .w)))
-unfolding node
-at-close {b} {text} {p0} {c} {low} {body} {cur} {words} kind d n a =
-    let h : ℕ = header kind d n (suc (length body)) in
-    let len : length (low ++ (0 ∷ body)) ≡ length low + suc (length body) = length-append low (0 ∷ body) in
-    let len2 : length (low ++ (h ∷ body)) ≡ length low + suc (length body) = length-append low (h ∷ body) in
-    let s : cur .w - a .from .w ≡ suc (length body) = omega (arith, a .base, a .count) in
-    let m : suc (length body) < 4294967296 = omega (arith, at-small a, a .count) in
-    let e : headerOf kind d n (a .from .w) (cur .w) ≡ h = rw (s, lt-ltb _ _ m) in
-    record {
-      from = a .from;
-      was = a .was;
-      base = a .base;
-      small = a .small;
-      lid = a .lid;
-      inside = a .inside;
-      count = a .count ∙ len ∙ sym len2;
-      paid = omega (arith, a .paid);
-      stands = rw (e, a .base) (patched low body words 0 h (a .stands));
-    }
-
--- a word behind those of l, since p0
-pub at-patch : {b : Budget} {text : List ℕ} {p0 : Parsed} {c : ℕ} {low : List ℕ} {cur : Cursor} {words : List ℕ} (l m : List ℕ) (x y k : ℕ) → length l ≡ k → (a : At b text p0 c low (l ++ (x ∷ m)) cur words) → At b text p0 c low (l ++ (y ∷ m)) cur (set words (a .from .w + k) y)
-at-patch {b} {text} {p0} {c} {low} {cur} {words} l m x y k e a =
-    let n : (v : ℕ) → (low ++ l) ++ (v ∷ m) ≡ low ++ (l ++ (v ∷ m)) = λ v. append-assoc low l (v ∷ m) in
-    let o : length (low ++ l) ≡ a .from .w + k = omega (arith, length-append low l, a .base) in
-    let i : length ((low ++ l) ++ (x ∷ m)) ≡ length (low ++ l) + suc (length m) = length-append (low ++ l) (x ∷ m) in
-    let j : length ((low ++ l) ++ (y ∷ m)) ≡ length (low ++ l) + suc (length m) = length-append (low ++ l) (y ∷ m) in
-    let z : length (low ++ (l ++ (x ∷ m))) ≡ length (low ++ (l ++ (y ∷ m))) = ap length (sym (n x)) ∙ i ∙ sym j ∙ ap length (n y) in
-    record {
-      from = a .from;
-      was = a .was;
-      base = a .base;
-      small = a .small;
-      lid = a .lid;
-      inside = a .inside;
-      count = a .count ∙ z;
-      paid = omega (arith, a .paid);
-      stands = subst (λ (v : List ℕ). Stands v (set words (a .from .w + k) y)) (n y)
-          (subst (λ (v : ℕ). Stands ((low ++ l) ++ (y ∷ m)) (set words v y)) o
-          (patched (low ++ l) m words x y (subst (λ (v : List ℕ). Stands v words) (sym (n x)) (a .stands))));
-    }
 
 -- ---- ends and loops of readers that write
 -- the result is what stands
@@ -384,17 +304,6 @@ module _ {A : Type 0} {mid : List ℕ} {E : Goal A} {text : List ℕ} {p0 : Pars
   unfolding tokenIf
   token-no b f s e y h = val _ s (byte-no b f e y h)
 
-  -- ---- words
-  -- a word written
-  pub push-then : {c : ℕ} {f : Prog A} (x : ℕ) {p q : Parsed} {v : List ℕ} → (q ≡ pushed p) × (v ≡ pushes x p w) → Leads f c (mid ++ (x ∷ [])) E text p0 q v p′ w′ → Leads f (suc c) mid E text p0 p w p′ w′
-  push-then {c} {f} x {p} {q} {v} o h = record {
-    runs = λ b low k cur t a.
-        let u : v ≡ set w (cur .w) x = o .1 ∙ ap (λ (y : Parsed). pushes x y w) t in
-        h .runs b low k (record { at = cur .at; w = bumped (cur .w) }) (o .0 ∙ ap pushed t)
-        (subst (λ (l : List ℕ). At b text p0 (c + k) low (mid ++ (x ∷ [])) (record { at = cur .at; w = bumped (cur .w) }) l) (sym u) (at-push x (at-less (suc (c + k)) (omega arith) a)));
-    hands = λ n y t. h .hands n y (o .0 ∙ ap pushed t);
-  }
-
   -- what is paid for need not be used
   pub spare : {c : ℕ} {f : Prog A} {p : Parsed} (d : ℕ) → d ≤ c → Leads f d mid E text p0 p w p′ w′ → Leads f c mid E text p0 p w p′ w′
   spare {c} d l h = record { runs = λ b low k cur t a. h .runs b low k cur t (at-less (d + k) (omega arith) a); hands = h .hands }
@@ -406,51 +315,6 @@ fail-is {A} e {E = E} {text = text} {p0 = p0} {q = q} {w′ = w′} h = record {
   runs = λ b low k cur t a. subst (λ (z : Parsed). E .ends b k low (no-at e (cur .at)) z w′) (sym (h ∙ ap (refused e) t)) (E .outs b k low e (cur .at) w′);
   hands = λ n y t. h ∙ ap (refused e) t;
 }
-
--- a node ends
-pub close-is : (kind d n : ℕ) {c : ℕ} (body : List ℕ) {text : List ℕ} {p0 p q : Parsed} {w w′ : List ℕ} → (q ≡ p) × (w′ ≡ closes kind d n p0 p w) → Leads (ret (node kind d n body)) c (0 ∷ body) (made same text p0) text p0 p w q w′
-unfolding run
-close-is kind d n {c} body {text} {p0} {p} {q} {w} {w′} o = record {
-  runs = λ b low k cur t a.
-      let u : w′ ≡ set w (a .from .w) (headerOf kind d n (a .from .w) (cur .w)) = o .1 ∙ ap (λ (y : Parsed). closes kind d n y p w) (a .was) ∙ ap (λ (y : Parsed). closes kind d n (Ok (a .from)) y w) t in
-      subst (λ (l : List ℕ). Ends b text p0 k low same (ok (node kind d n body) (cur .at)) q l) (sym u)
-      (subst (λ (z : Parsed). Ends b text p0 k low same (ok (node kind d n body) (cur .at)) z (set w (a .from .w) (headerOf kind d n (a .from .w) (cur .w)))) (sym (o .0 ∙ t)) (at (at-less k (omega arith) (at-close kind d n a))));
-  hands = λ e y t. o .0 ∙ t;
-}
-
--- a node ends, and the program goes on
-pub close-then : {A : Type 0} {f : Prog A} (kind d n : ℕ) {c : ℕ} (body : List ℕ) {E : Goal A} {text : List ℕ} {p0 p q p′ : Parsed} {w v w′ : List ℕ} → (q ≡ p) × (v ≡ closes kind d n p0 p w) → Leads f c (node kind d n body) E text p0 q v p′ w′ → Leads f c (0 ∷ body) E text p0 p w p′ w′
-close-then {A} {f} kind d n {c} body {E} {text} {p0} {p} {q} {p′} {w} {v} {w′} o h = record {
-  runs = λ b low k cur t a.
-      let u : v ≡ set w (a .from .w) (headerOf kind d n (a .from .w) (cur .w)) = o .1 ∙ ap (λ (y : Parsed). closes kind d n y p w) (a .was) ∙ ap (λ (y : Parsed). closes kind d n (Ok (a .from)) y w) t in
-      h .runs b low k cur (o .0 ∙ t) (subst (λ (l : List ℕ). At b text p0 (c + k) low (node kind d n body) cur l) (sym u) (at-close kind d n a));
-  hands = λ e y t. h .hands e y (o .0 ∙ t);
-}
-
--- a word that was left open is known now: those of l stand before it, since p0
-pub patch-then : {A : Type 0} {f : Prog A} {c : ℕ} (k x : ℕ) (l : List ℕ) (y : ℕ) (m : List ℕ) {E : Goal A} {text : List ℕ} {p0 p q p′ : Parsed} {w v w′ : List ℕ} → length l ≡ k → (q ≡ p) × (v ≡ patches k x p0 p w) → Leads f c (l ++ (x ∷ m)) E text p0 q v p′ w′ → Leads f c (l ++ (y ∷ m)) E text p0 p w p′ w′
-patch-then {A} {f} {c} k x l y m {E} {text} {p0} {p} {q} {p′} {w} {v} {w′} z o h = record {
-  runs = λ b low n cur t a.
-      let u : v ≡ set w (a .from .w + k) x = o .1 ∙ ap (λ (s : Parsed). patches k x s p w) (a .was) ∙ ap (λ (s : Parsed). patches k x (Ok (a .from)) s w) t in
-      h .runs b low n cur (o .0 ∙ t) (subst (λ (s : List ℕ). At b text p0 (c + n) low (l ++ (x ∷ m)) cur s) (sym u) (at-patch l m y x k z a));
-  hands = λ e s t. h .hands e s (o .0 ∙ t);
-}
-
--- one word in place of all since p0
-pub replace-then : {A : Type 0} {f : Prog A} {c : ℕ} (x : ℕ) {mid : List ℕ} {E : Goal A} {text : List ℕ} {p0 p q p′ : Parsed} {w v w′ : List ℕ} → (q ≡ replaced p0 p) × (v ≡ replaces x p0 p w) → Leads f c (x ∷ []) E text p0 q v p′ w′ → Leads f (suc c) mid E text p0 p w p′ w′
-unfolding at-less
-replace-then {A} {f} {c} x {mid} {E} {text} {p0} {p} {q} {p′} {w} {v} {w′} o h = record {
-  runs = λ b low k cur t a.
-      let u : v ≡ set w (a .from .w) x = o .1 ∙ ap (λ (y : Parsed). replaces x y p w) (a .was) ∙ ap (λ (y : Parsed). replaces x (Ok (a .from)) y w) t in
-      let z : q ≡ Ok (record { at = cur .at; w = bumped (a .from .w) }) = o .0 ∙ ap (λ (y : Parsed). replaced y p) (a .was) ∙ ap (λ (y : Parsed). replaced (Ok (a .from)) y) t in
-      h .runs b low k (record { at = cur .at; w = bumped (a .from .w) }) z
-      (subst (λ (l : List ℕ). At b text p0 (c + k) low (x ∷ []) (record { at = cur .at; w = bumped (a .from .w) }) l) (sym u) (at-one x (at-less (suc (c + k)) (omega arith) a)));
-  hands = λ n y t. h .hands n y (o .0 ∙ ap (λ (z : Parsed). replaced p0 z) t ∙ still p0 n y);
-}
-  where
-    still : (b : Parsed) (n y : ℕ) → replaced b (Refused n y) ≡ Refused n y
-    still (Ok b) n y = refl
-    still (Refused e z) n y = refl
 
 -- ---- readers that write nothing
 module _ {A : Type 0} {f : Prog A} {a : A} {text : List ℕ} where
@@ -577,6 +441,39 @@ g-more f u {E} {text} {p} {p′} h r = let e : suc (u - 1) ≡ u = omega arith i
 
 pub g-no-more : {A : Type 0} (f : ℕ → Prog A) (u : ℕ) {E : Aim A} {text : List ℕ} {p p′ : Parsed} → u ≤ 0 → Finds (f 0) E text p p′ → Finds (f u) E text p p′
 g-no-more f u {E} {text} {p} {p′} h r = let e : 0 ≡ u = omega arith in subst (λ (z : ℕ). Finds (f z) E text p p′) e r
+
+-- ---- words that are known, written where as many are paid for
+ok-words : (a b : List ℕ) (i j : ℕ) → ok a i ≡ ok b j → a ≡ b
+ok-words a b i j e = cc
+
+ok-place : (a b : List ℕ) (i j : ℕ) → ok a i ≡ ok b j → i ≡ j
+ok-place a b i j e = cc
+
+ok-not : {B : Type 0} (a : List ℕ) (i e x : ℕ) → ok a i ≡ no-at e x → B
+ok-not a i e x h = absurd (let z : _≡_ {A = ℕ} 0 1 = cc in omega arith)
+
+wrote-in : {A : Type 0} {f : Prog A} (d c : ℕ) {n : ℕ} {x mid : List ℕ} {E : Goal A} {text : List ℕ} {p0 p p1 p′ : Parsed} {w w1 w′ : List ℕ} → d + c ≤ n → Leads (ret x) d [] (made same text p) text p p w p1 w1 → Leads f c (mid ++ x) E text p0 p1 w1 p′ w′ → Leads f n mid E text p0 p w p′ w′
+unfolding run
+wrote-in {A} {f} d c {n} {x} {mid} {E} {text} {p0} {p} {p1} {p′} {w} {w1} {w′} l r s = record {
+  runs = λ b low k cur e a. go b low k cur a refl refl (r .runs b (low ++ mid) (c + k) cur e (at-less (d + (c + k)) (omega arith) (at-part e a)));
+  hands = λ e q i. s .hands e q (r .hands e q i);
+}
+  where
+    go : (b : Budget) (low : List ℕ) (k : ℕ) (cur : Cursor) → At b text p0 (n + k) low mid cur w → {y : Parsed} {z : Res (List ℕ)} → p1 ≡ y → ok x (cur .at) ≡ z → Ends b text p (c + k) (low ++ mid) same z y w1 → E .ends b k low (run f (cur .at) (drop (cur .at) text)) p′ w′
+    go b low k cur a e h (at {ws = ws} {cur = c1} i) =
+        let t : ws ≡ x = sym (ok-words x ws (cur .at) (c1 .at) h) in
+        let o : c1 .at ≡ cur .at = sym (ok-place x ws (cur .at) (c1 .at) h) in
+        subst (λ (m : ℕ). E .ends b k low (run f m (drop m text)) p′ w′) o
+        (s .runs b low k c1 e (subst (λ (v : List ℕ). At b text p0 (c + k) low (mid ++ v) c1 w1) t (at-whole a i)))
+    go b low k cur a e h (out {e = m} {q = y}) = ok-not x (cur .at) m y h
+
+-- behind them nothing is left over
+pub wrote : {A : Type 0} {f : Prog A} (d : ℕ) {n : ℕ} {x mid : List ℕ} {E : Goal A} {text : List ℕ} {p0 p p1 p′ : Parsed} {w w1 w′ : List ℕ} → d ≤ n → Leads (ret x) d [] (made same text p) text p p w p1 w1 → Leads f 0 (mid ++ x) E text p0 p1 w1 p′ w′ → Leads f n mid E text p0 p w p′ w′
+wrote d l r s = wrote-in d 0 (omega arith) r s
+
+-- behind them c more are paid for
+pub write-then : {A : Type 0} {f : Prog A} (x : List ℕ) (d : ℕ) {c : ℕ} {mid : List ℕ} {E : Goal A} {text : List ℕ} {p0 p p1 p′ : Parsed} {w w1 w′ : List ℕ} → Leads (ret x) d [] (made same text p) text p p w p1 w1 → Leads f c (mid ++ x) E text p0 p1 w1 p′ w′ → Leads f (d + c) mid E text p0 p w p′ w′
+write-then x d {c} r s = wrote-in d c (omega arith) r s
 
 -- ---- tests that leave the cursor where it is, and what they allow
 byte-at-run : {A : Type 0} (b : ℕ) (f g : Prog A) (text : List ℕ) (i : ℕ) (z : Bool) → isByte b (byteAt (drop i text)) ≡ z → run (byteAtIf b f g) i (drop i text) ≡ run (elim z [ true ↦ f | false ↦ g ]) i (drop i text)

@@ -1,26 +1,26 @@
--- Keywords by their rank in a table, and the laws of `rankIf`.
+-- Keywords by their rank in a table, and the laws of `rankIf`. A word that differs from the first of a table has one more than its rank in the rest.
 -- Assumes nothing.
 use mathlib.Core.Path.{_≡_, refl, sym, ap, _∙_, subst}
 use mathlib.Core.List.{List, [], _∷_}
 use mathlib.Core.Bool.{Bool, true, false, _&&_}
-use Prim.Native.Nat.{ℕ, zero, suc, _+_, _-_, _*_, _≤_, _<_}
+use Prim.Native.Nat.{ℕ, suc, _+_, _-_, _≤_, _<_}
 use native.Mathlib.Omega.{arith}
 use native.Mathlib.Nat.{add-zero}
 use lib.Dec.{ltb, leb, eqb, T}
 use lib.ListN.{length, getD, take, drop, length-drop, drop-of-length-le}
 use lib.Seq.{drop-drop, take-all, take-length, take-nil, drop-length}
-use borrow.Author.Tests.{eq-eqb, ne-eqb, lt-ltb, le-ltb, le-leb, lt-leb, leb-true, leb-false, ltb-true, ltb-false}
+use borrow.Author.Tests.{eq-eqb, ne-eqb, lt-ltb, le-ltb, leb-true, leb-false, ltb-true, ltb-false}
 use Rattle.program.specs.Class.{classOf, isWord}
-use Rattle.program.specs.Prog.{Prog, ret, eat, lead, Res, run, leadWord}
+use Rattle.program.specs.Prog.{Prog, Res, run, leadWord}
 use Rattle.grammar.specs.Lexer.{sameWord, rank, rankIf, eatN}
 use Rattle.lexer.specs.Table.{cut, full}
 use Rattle.lexer.specs.Step.{passed, rankP, rankedP}
-use Rattle.lexer.specs.Reads.{Budget, At, Leads, Goal, Inside, Aim, Finds}
+use Rattle.lexer.specs.Reads.{Leads, Goal, Inside, Aim, Finds}
 use Rattle.lexer.specs.declared.Cursor.{Cursor}
 use Rattle.lexer.specs.declared.Parsed.{Parsed}
 use Rattle.lexer.specs.declared.Parsed.the-variants.{Ok, Refused}
 use Rattle.lexer.proofs.Scan.{drop-next, wordy, wordless}
-use Rattle.lexer.proofs.Laws.{at-place, moved, g-moved, run-eatN, true-false, pass-in}
+use Rattle.lexer.proofs.Laws.{moved, g-moved, run-eatN, pass-in}
 
 -- ---- two words, byte by byte
 pub same-long : (a b : List ℕ) → (length a ≡ length b → ⊥) → sameWord a b ≡ false

@@ -1,10 +1,10 @@
--- What the lexer's definitions say at a place of a text.
+-- What the lexer's definitions say at a place of a text: the text from i on is its byte at i and the text from i + 1 on (`drop-next`).
 -- Assumes nothing.
 use mathlib.Core.Path.{_≡_, refl, sym, ap, _∙_}
 use mathlib.Core.List.{List, [], _∷_}
 use mathlib.Core.Bool.{Bool, true, false, _&&_}
 use mathlib.Core.Option.{Option, none, some}
-use Prim.Native.Nat.{ℕ, zero, suc, _+_, _-_, _≤_, _<_}
+use Prim.Native.Nat.{ℕ, _+_, _-_, _≤_, _<_}
 use native.Mathlib.Numerals.{add-one}
 use native.Mathlib.Nat.{add-zero}
 use native.Mathlib.Omega.{arith}
@@ -12,11 +12,10 @@ use lib.ListN.{length, getD, drop, drop-of-length-le}
 use lib.Seq.{drop-cons}
 use lib.Dec.{ltb, leb, eqb}
 use borrow.Author.Tests.{eq-eqb, ne-eqb, lt-ltb, le-ltb, le-leb, lt-leb, leb-true, leb-false, ltb-true, ltb-false, eqb-true}
-use Rattle.program.specs.Class.{classOf, isWord}
+use Rattle.program.specs.Class.{classOf, isWord, isSpace}
 use Rattle.program.specs.Prog.{byteAt, leadWord, scanLen}
-use Rattle.grammar.specs.Lexer.{isByte, sameWord, stateOf}
-use Rattle.lexer.specs.Step.{stepCode}
-use Rattle.lexer.specs.Names.{taken, StopAt}
+use Rattle.grammar.specs.Lexer.{isByte, sameWord, stateOf, spaceStep}
+use Rattle.lexer.specs.Step.{stepCode, taken, StopAt}
 
 -- the byte at a place, and the text behind it
 pub drop-next : (s : List ℕ) (i : ℕ) → i < length s → drop i s ≡ getD s i 0 ∷ drop (i + 1) s
@@ -169,3 +168,20 @@ byte-inside s i b e = go (ltb i (length s)) refl
             let q : 256 ≡ b = eqb-true _ _ k in
             omega arith
         no-end false u k = let z : _≡_ {A = ℕ} 0 1 = cc in omega arith
+
+-- no comment begins with white space
+spaceless : 18 ≡ classOf 59 → ⊥
+unfolding classOf
+spaceless e = absurd (omega arith)
+
+-- ---- white space: r is the class of the byte at i
+module _ (s : List ℕ) (i r : ℕ) (h : i < length s) (e : r ≡ classOf (getD s i 0)) where
+  pub space-more : r ≡ 18 → i + scanLen spaceStep 0 (drop i s) ≡ i + 1 + scanLen spaceStep 0 (drop (i + 1) s)
+  unfolding spaceStep isSpace
+  space-more k =
+      let n : (getD s i 0 ≡ 59 → ⊥) = λ x. spaceless (sym k ∙ (e ∙ ap classOf x)) in
+      scan-some spaceStep s i 0 0 h (rw (ne-eqb _ _ n, ← e, eq-eqb _ _ k))
+
+  pub space-stop : (r ≡ 18 → ⊥) → (getD s i 0 ≡ 59 → ⊥) → i + scanLen spaceStep 0 (drop i s) ≡ i
+  unfolding spaceStep isSpace
+  space-stop k n = scan-stop spaceStep s i 0 h (rw (ne-eqb _ _ n, ← e, ne-eqb _ _ k))

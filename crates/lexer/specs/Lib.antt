@@ -1,6 +1,5 @@
 pub mod Table
 pub mod Step
 pub mod Reads
-pub mod Names
 pub mod Number
 pub mod Place

@@ -1,22 +1,22 @@
 -- 01: "Line is 1 plus the line feeds before it; column is 1 plus the characters since the last one."
 -- Assumes nothing.
-use mathlib.Core.Bool.{Bool, true, false}
 use mathlib.Core.List.{List, [], _∷_}
-use Prim.Native.Nat.{ℕ, suc, _+_}
+use Prim.Native.Nat.{ℕ, _+_}
 use lib.Dec.{eqb, ltb}
 use lib.ListN.{length, take}
+use Rattle.program.specs.Bytes.{byte}
 use Rattle.program.specs.Choice.{pick}
 use Rattle.lexer.specs.declared.Position.{Position}
 
 -- how many line feeds
 unfoldable pub feeds : List ℕ → ℕ
 feeds [] = 0
-feeds (x ∷ s) = pick (eqb x 10) 1 0 + feeds s
+feeds (x ∷ s) = pick (eqb x (byte "\n")) 1 0 + feeds s
 
 -- how many bytes stand behind the last line feed, where c stood before; each is a character (question 2)
 unfoldable pub since : ℕ → List ℕ → ℕ
 since c [] = c
-since c (x ∷ s) = since (pick (eqb x 10) 0 (c + 1)) s
+since c (x ∷ s) = since (pick (eqb x (byte "\n")) 0 (c + 1)) s
 
 -- "Two escape errors can put it one past the text's length": the missing byte counts as a character, as in the Rust. A place further on counts
 -- as that one.

@@ -1,11 +1,11 @@
 -- What the code holds of a program's run: the relations of code to programs. Their laws are in proofs/Laws.antt.
 -- Assumes nothing.
-use mathlib.Core.Path.{_≡_, refl}
-use mathlib.Core.List.{List, [], _∷_, _++_}
-use Prim.Native.Nat.{ℕ, zero, suc, _+_, _*_, _≤_, _<_}
+use mathlib.Core.Path.{_≡_}
+use mathlib.Core.List.{List, [], _++_}
+use Prim.Native.Nat.{ℕ, _+_, _*_, _≤_, _<_}
 use native.Mathlib.Omega.{arith}
 use lib.ListN.{length, getD, drop}
-use Rattle.program.specs.Prog.{Prog, Res, ok, closed, no-at, run}
+use Rattle.program.specs.Prog.{Prog, Res, ok, no-at, run}
 use Rattle.lexer.specs.declared.Cursor.{Cursor}
 use Rattle.lexer.specs.declared.Parsed.{Parsed}
 use Rattle.lexer.specs.declared.Parsed.the-variants.{Ok, Refused}
@@ -115,3 +115,7 @@ came text g = record { ends = λ i w r p. Came text g i w r p; outs = λ i w e q
 
 abbrev pub Comes : {A : Type 0} → Prog A → Prog A → List ℕ → Parsed → Parsed → Type 0
 Comes f g text p p′ = Finds f (came text g) text p p′
+
+-- Where the reader has come to p, the count m is k.
+abbrev pub Counts : Parsed → ℕ → ℕ → Type 0
+Counts p m k = (cur : Cursor) → p ≡ Ok cur → m ≡ k

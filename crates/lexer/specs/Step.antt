@@ -1,18 +1,27 @@
--- What the small functions of the lexer do, exactly: at every cursor and every array of words.
+-- Names as they stand in a text: 01, "raw text behind the sigil, quotes included".
 -- Assumes nothing.
-use mathlib.Core.Bool.{Bool, true, false}
-use mathlib.Core.List.{List, [], _∷_}
+use mathlib.Core.Path.{_≡_}
+use mathlib.Core.Bool.{Bool, false}
+use mathlib.Core.List.{List}
 use mathlib.Core.Option.{Option, none, some}
-use Prim.Native.Nat.{ℕ, suc, _+_, _-_}
+use Prim.Native.Nat.{ℕ, _+_, _-_, suc}
 use lib.Dec.{ltb, leb}
-use lib.ListN.{length, drop, set}
-use Rattle.program.specs.Choice.{pick}
-use Rattle.program.specs.Prog.{byteAt, leadWord}
-use Rattle.records.specs.Words.{header}
-use Rattle.grammar.specs.Lexer.{isByte, sameWord, rank}
-use Rattle.lexer.specs.declared.Cursor.{Cursor}
+use lib.ListN.{length, take, drop}
+use Rattle.program.specs.Prog.{scanLen, byteAt, leadWord}
+use Rattle.grammar.specs.Lexer.{stateOf, isByte, sameWord, rank}
 use Rattle.lexer.specs.declared.Parsed.{Parsed}
-use Rattle.lexer.specs.declared.Parsed.the-variants.{Ok, Refused}
+use Rattle.lexer.specs.declared.Parsed.the-variants.{Refused, Ok}
+use Rattle.lexer.specs.declared.Stop.{Stop}
+use Rattle.program.specs.Choice.{pick}
+
+-- the bytes that an automaton passes
+abbrev pub taken : (ℕ → ℕ → Option ℕ) → ℕ → List ℕ → List ℕ
+taken f q s = take (scanLen f q s) s
+
+-- where an automaton stops that begins at a place in state 0
+pub record StopAt (f : ℕ → ℕ → Option ℕ) (text : List ℕ) (at : ℕ) (r : Stop) : Type 0 where
+  pub place : r .at ≡ at + scanLen f 0 (drop at text)
+  pub state : r .q ≡ stateOf f 0 (taken f 0 (drop at text))
 
 -- a step of an automaton as a number: 0 stop, else one more than the state
 abbrev pub stepCode : Option ℕ → ℕ
@@ -46,61 +55,14 @@ abbrev pub refused : ℕ → Parsed → Parsed
 refused e (Ok c) = Refused e (c .at)
 refused e (Refused e′ q) = Refused e′ q
 
+-- behind a child that has n before it: question 19
+abbrev pub countedP : ℕ → Parsed → Parsed
+countedP n p = pick (ltb n 65535) p (refused 19 p)
+
 -- a refusal at another place
 abbrev pub refusedAt : ℕ → ℕ → Parsed → Parsed
 refusedAt e i (Ok c) = Refused e i
 refusedAt e i (Refused e′ q) = Refused e′ q
-
--- one more word: where the cursor is then, and the words
-abbrev pub pushed : Parsed → Parsed
-pushed (Ok c) = Ok (record { at = c .at; w = bumped (c .w) })
-pushed (Refused e q) = Refused e q
-
-abbrev pub pushes : ℕ → Parsed → List ℕ → List ℕ
-pushes x (Ok c) words = set words (c .w) x
-pushes x (Refused e q) words = words
-
--- the header of a node whose words begin at `from` and end before `to`
-abbrev pub headerOf : ℕ → ℕ → ℕ → ℕ → ℕ → ℕ
-headerOf kind d n from to = pick (ltb (to - from) 4294967296) (header kind d n (to - from)) 0
-
-abbrev pub closes : ℕ → ℕ → ℕ → Parsed → Parsed → List ℕ → List ℕ
-closes kind d n (Ok b) (Ok c) words = set words (b .w) (headerOf kind d n (b .w) (c .w))
-closes kind d n (Ok b) (Refused e q) words = words
-closes kind d n (Refused e q) p words = words
-
--- word number k since p0 becomes x
-abbrev pub patches : ℕ → ℕ → Parsed → Parsed → List ℕ → List ℕ
-patches k x (Ok b) (Ok c) words = set words (b .w + k) x
-patches k x (Ok b) (Refused e q) words = words
-patches k x (Refused e q) p words = words
-
--- behind p, with one word x in place of all since p0
-abbrev pub replaced : Parsed → Parsed → Parsed
-replaced (Ok b) (Ok c) = Ok (record { at = c .at; w = bumped (b .w) })
-replaced (Ok b) (Refused e q) = Refused e q
-replaced (Refused e q) p = p
-
-abbrev pub replaces : ℕ → Parsed → Parsed → List ℕ → List ℕ
-replaces x (Ok b) (Ok c) words = set words (b .w) x
-replaces x (Ok b) (Refused e q) words = words
-replaces x (Refused e q) p words = words
-
--- back to p, unless q is a refusal
-abbrev pub backTo : Parsed → Parsed → Parsed
-backTo p (Ok c) = p
-backTo p (Refused e q) = Refused e q
-
--- the place of p, before any words
-abbrev pub restarted : Parsed → Parsed
-restarted (Ok c) = Ok (record { at = c .at; w = 0 })
-restarted (Refused e q) = Refused e q
-
--- the place of q with the words of p
-abbrev pub joined : Parsed → Parsed → Parsed
-joined (Ok c) (Ok b) = Ok (record { at = b .at; w = c .w })
-joined (Ok c) (Refused e q) = Refused e q
-joined (Refused e q) p = Refused e q
 
 -- the place of the cursor
 abbrev pub placeP : Parsed → ℕ

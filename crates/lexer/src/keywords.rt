@@ -4,13 +4,13 @@ use crate::Parsed;
 use crate::Ranked;
 use crate::class;
 use crate::eat_ws;
-use crate::minus;
+use crate::limits::WORD;
 ghost use mathlib.Core.Path.{_≡_};
-ghost use mathlib.Core.List.{List};
 ghost use Prim.Native.Nat.{_+_, _-_, _≤_};
 ghost use lib.ListN.{length, take, drop};
 ghost use Rattle.program.specs.Prog.{leadWord};
-ghost use Rattle.grammar.specs.Lexer.{sameWord, rank, skipOne, skipAll, turns};
+ghost use Rattle.grammar.specs.Lexer.{sameWord, rank, skipOne, skipAll};
+ghost use Rattle.records.specs.Limits.{turns};
 ghost use Rattle.lexer.specs.Table.{Classes, cut};
 ghost use Rattle.lexer.specs.Step.{rankP, rankedP};
 ghost use Rattle.lexer.specs.Reads.{Gives};
@@ -83,7 +83,7 @@ fn word_end(classes: &[u8; 256], text: &[u8], at: usize) -> usize
 {
     let mut i = at;
     while i < text.len() {
-        if 16 < class(classes, text[i]) {
+        if WORD < class(classes, text[i]) {
             return i;
         }
         i += 1;
@@ -135,7 +135,7 @@ pub fn skip_all(classes: &[u8; 256], text: &[u8], p: Parsed, lens: &[u8], bytes:
     ensures { λ r. ⌜ Gives (skipAll turns (cut (now (lens .entry)) (now (bytes .entry)))) tt (now (text .entry)) p r ⌝ }
 {
     let mut q = p;
-    let mut left: usize = 16777217;
+    let mut left: usize = records::TURNS;
     while 0 < left {
         let q1 = eat_ws(classes, text, q);
         let k = match_rank(classes, text, q1, lens, bytes);

@@ -3,52 +3,32 @@
 // A reader takes the answer so far, `Parsed`, and hands a refusal on, so that its body is a straight line of calls, as the Rust's with `?`.
 // The table of classes is made once, by `classes`, and lent to every reader as its first parameter.
 pub mod keywords; // keywords.rt: keywords by their rank in a table
+pub mod limits; // limits.rt: the classes of bytes by name
+pub mod lists; // lists.rt: what lists share
 pub mod lines; // lines.rt: the line and the column of a place
-pub mod names; // names.rt: names, quoted or not
 pub mod numbers; // numbers.rt: numbers of at most 64 bits
-pub mod skips; // skips.rt: what is passed over, and byte strings
-pub mod spelling; // spelling.rt: names with quotes and escapes undone
-pub mod writer; // writer.rt: words and nodes
 
 pub use keywords::match_rank;
 pub use keywords::rank_of;
 pub use keywords::skip_all;
 pub use keywords::skip_one;
 pub use lines::position_of;
-pub use names::name_word;
-pub use names::parse_global_name;
-pub use names::parse_local_name;
-pub use names::read_word;
+pub use lists::comma_or;
+pub use lists::count_child;
 pub use numbers::parse_int;
-pub use skips::balanced;
-pub use skips::cstring;
-pub use skips::skip_metadata_ref;
-pub use skips::skip_parens;
-pub use skips::three_dots;
-pub use spelling::same_name;
-pub use spelling::spelled_rank;
-pub use spelling::spells;
-pub use writer::back_to;
-pub use writer::close;
-pub use writer::join;
-pub use writer::minus;
-pub use writer::patch;
-pub use writer::push;
-pub use writer::replace;
-pub use writer::restart;
+pub use numbers::shift;
 ghost use mathlib.Core.Path.{_≡_};
-ghost use mathlib.Core.Bool.{Bool};
-ghost use Prim.Native.Nat.{_+_};
-ghost use lib.ListN.{drop};
+ghost use Prim.Native.Nat.{_+_, _-_};
+ghost use lib.ListN.{length, drop};
 ghost use Rattle.program.specs.Class.{classOf};
 ghost use Rattle.program.specs.Prog.{scanLen, leadWord, byteAt};
 ghost use Rattle.grammar.specs.Lexer.{spaceStep, isByte, sameWord, eatWs, expectToken, expectKeyword, skipKeyword};
 ghost use Rattle.lexer.specs.Table.{Classes};
-ghost use Rattle.lexer.specs.Step.{stepCode, looksP, wordP, passed, refused, refusedAt, placeP};
+ghost use Rattle.lexer.specs.Step.{stepCode, bumped, looksP, wordP, passed, refused, refusedAt, placeP};
 ghost use Rattle.lexer.specs.Reads.{Gives};
 
-// The class of each byte: 0 to 15 a hexadecimal digit and its value, 16 any other letter or `_`, 17 one of `.` `-` `$`, 18 white space,
-// 19 any other. So every question about a byte is one comparison.
+// The class of each byte: below HEX a hexadecimal digit and its value, WORD any other letter or `_`, NAME one of `.` `-` `$`, SPACE white space,
+// OTHER any other.
 pub const CLASSES: [u8; 256] = [
     19,
     19,
@@ -347,14 +327,6 @@ pub struct Num {
     pub v: u64,
 }
 
-// A word as it stands in the text, quotes included, and whether it has no bytes (between its quotes).
-pub struct WordAt {
-    pub p: Parsed,
-    pub start: usize,
-    pub end: usize,
-    pub empty: bool,
-}
-
 // A number, or one that 64 bits do not hold.
 pub enum Val {
     Exact(u64),
@@ -373,17 +345,24 @@ pub struct Position {
     pub column: usize,
 }
 
-// The next byte of a name with escapes undone, if there is one, and the place behind it.
-pub struct Letter {
-    pub there: bool,
-    pub b: u16,
-    pub next: usize,
-}
-
 // Where an automaton stopped, and in which state.
 pub struct Stop {
     pub at: usize,
     pub q: u8,
+}
+
+// The difference, or 0.
+pub fn minus(to: usize, from: usize) -> usize
+    ensures { λ r. ⌜ r ≡ to - from ⌝ }
+{
+    if from <= to { to - from } else { 0 }
+}
+
+// One more, up to 2^32.
+pub fn bump(w: usize) -> usize
+    ensures { λ r. ⌜ r ≡ bumped w ⌝ }
+{
+    if w < records::HALF_LIMIT { w + 1 } else { w }
 }
 
 // White space and comments: 0 stop, else one more than the state behind b, which is 1 inside a comment.
@@ -392,15 +371,15 @@ fn space_step(classes: &[u8; 256], q: u8, b: u8) -> u8
     ensures { λ r. ⌜ r ≡ stepCode (spaceStep q b) ⌝ }
 {
     if q == 0 {
-        if b == 59 {
+        if b == b';' {
             return 2;
         }
-        if class(classes, b) == 18 {
+        if class(classes, b) == limits::SPACE {
             return 1;
         }
         return 0;
     }
-    if b == 10 {
+    if b == b'\n' {
         return 1;
     }
     2
@@ -432,8 +411,8 @@ fn space_end(classes: &[u8; 256], text: &[u8], at: usize) -> usize
     let mut i = at;
     while i < text.len() {
         let b = text[i];
-        if class(classes, b) != 18 {
-            if b == 59 {
+        if class(classes, b) != limits::SPACE {
+            if b == b';' {
                 return comment_end(classes, text, i);
             }
             return i;
@@ -468,14 +447,14 @@ fn at_word(classes: &[u8; 256], text: &[u8], at: usize, kw: &[u8]) -> bool
         if text[i] != kw[j] {
             return false;
         }
-        if 16 < class(classes, text[i]) {
+        if limits::WORD < class(classes, text[i]) {
             return false;
         }
         i += 1;
         j += 1;
     }
     if i < text.len() {
-        return 16 < class(classes, text[i]);
+        return limits::WORD < class(classes, text[i]);
     }
     true
 }
@@ -543,6 +522,13 @@ pub fn pass(text: &[u8], p: Parsed, m: usize) -> Parsed
     }
 }
 
+// Behind the keyword kw, which stands there.
+pub fn pass_word(text: &[u8], p: Parsed, kw: &[u8]) -> Parsed
+    ensures { λ r. ⌜ r ≡ passed (now (text .entry)) (length (now (kw .entry))) p ⌝ }
+{
+    pass(text, p, kw.len())
+}
+
 // A refusal at the cursor (`parse_error`).
 pub fn refuse(p: Parsed, e: u64) -> Parsed
     ensures { λ r. ⌜ r ≡ refused e p ⌝ }
@@ -592,7 +578,7 @@ pub fn expect_token(classes: &[u8; 256], text: &[u8], p: Parsed, b: u8) -> Parse
     if looks(text, q, b) {
         return pass(text, q, 1);
     }
-    refuse(q, 3)
+    refuse(q, records::Q_TOKEN)
 }
 
 // White space, and the keyword kw (`expect_keyword`).
@@ -602,9 +588,9 @@ pub fn expect_keyword(classes: &[u8; 256], text: &[u8], p: Parsed, kw: &[u8]) ->
 {
     let q = eat_ws(classes, text, p);
     if word(classes, text, q, kw) {
-        return pass(text, q, kw.len());
+        return pass_word(text, q, kw);
     }
-    refuse(q, 3)
+    refuse(q, records::Q_TOKEN)
 }
 
 // White space, and the keyword kw, if it stands there.
@@ -614,7 +600,7 @@ pub fn skip_keyword(classes: &[u8; 256], text: &[u8], p: Parsed, kw: &[u8]) -> P
 {
     let q = eat_ws(classes, text, p);
     if word(classes, text, q, kw) {
-        return pass(text, q, kw.len());
+        return pass_word(text, q, kw);
     }
     q
 }

@@ -16,7 +16,7 @@ pub fn position_of(text: &[u8], place: usize) -> Position
                 column: column + 1,
             };
         }
-        if text[i] == 10 {
+        if text[i] == b'\n' {
             line += 1;
             column = 1;
         } else {

@@ -5,23 +5,24 @@ use crate::Num;
 use crate::Parsed;
 use crate::Val;
 use crate::class;
+use crate::limits::DIGIT;
 ghost use mathlib.Core.Path.{_≡_};
 ghost use Prim.Native.Nat.{_<_};
 ghost use Rattle.grammar.specs.Numbers.{digitStep, parseInt};
 ghost use Rattle.lexer.specs.Table.{Classes};
 ghost use Rattle.lexer.specs.Step.{stepCode};
 ghost use Rattle.lexer.specs.Reads.{Gives};
-ghost use Rattle.lexer.specs.Number.{Shifted, Added, NumAt};
+ghost use Rattle.lexer.specs.Number.{shifted, added, NumAt};
 
 // Digits and `_`: 0 stop, else one more than the state behind b, which is 0 before the first digit.
 fn digit_step(classes: &[u8; 256], q: u8, b: u8) -> u8
     requires { ⌜ Classes (now classes) ⌝ }
     ensures { λ r. ⌜ r ≡ stepCode (digitStep q b) ⌝ }
 {
-    if class(classes, b) < 10 {
+    if class(classes, b) < DIGIT {
         return 2;
     }
-    if b == 95 {
+    if b == b'_' {
         if q == 0 {
             return 0;
         }
@@ -31,8 +32,8 @@ fn digit_step(classes: &[u8; 256], q: u8, b: u8) -> u8
 }
 
 // One digit more.
-fn shift(n: Val, d: u8) -> Val
-    ensures { λ r. ⌜ Shifted n d r ⌝ }
+pub fn shift(n: Val, d: u8) -> Val
+    ensures { λ r. ⌜ r ≡ shifted n d ⌝ }
 {
     match n {
         Val::Exact(v) => {
@@ -55,9 +56,9 @@ fn shift(n: Val, d: u8) -> Val
 // One digit or `_` more.
 fn add_digit(classes: &[u8; 256], n: Val, b: u8) -> Val
     requires { ⌜ Classes (now classes) ⌝ }
-    ensures { λ r. ⌜ Added n b r ⌝ }
+    ensures { λ r. ⌜ r ≡ added n b ⌝ }
 {
-    if b == 95 {
+    if b == b'_' {
         return n;
     }
     let d = class(classes, b);
@@ -97,7 +98,7 @@ pub fn parse_int(classes: &[u8; 256], text: &[u8], p: Parsed, lo: u64, hi: u64) 
             let i = r.at;
             if i == at {
                 return Num {
-                    p: Parsed::Refused(4, at),
+                    p: Parsed::Refused(records::Q_DIGIT, at),
                     v: 0,
                 };
             }
@@ -106,13 +107,13 @@ pub fn parse_int(classes: &[u8; 256], text: &[u8], p: Parsed, lo: u64, hi: u64) 
                 Val::Exact(v) => {
                     if v < lo {
                         return Num {
-                            p: Parsed::Refused(15, i),
+                            p: Parsed::Refused(records::Q_NUMBER, i),
                             v: 0,
                         };
                     }
                     if hi < v {
                         return Num {
-                            p: Parsed::Refused(15, i),
+                            p: Parsed::Refused(records::Q_NUMBER, i),
                             v: 0,
                         };
                     }
@@ -122,7 +123,7 @@ pub fn parse_int(classes: &[u8; 256], text: &[u8], p: Parsed, lo: u64, hi: u64) 
                     }
                 }
                 Val::Over => Num {
-                    p: Parsed::Refused(15, i),
+                    p: Parsed::Refused(records::Q_NUMBER, i),
                     v: 0,
                 },
             }

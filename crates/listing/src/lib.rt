@@ -1,6 +1,6 @@
 // What the programs print: a listing of pieces, a refusal.
-
 // A word and a number.
+
 pub fn say(word: &[u8], n: u64) {
     io::write_all(1, word);
     io::print_decimal(1, n);

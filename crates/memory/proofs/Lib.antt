@@ -1,1 +1,2 @@
+pub mod AllocaLaws
 pub mod MemoryLaws

@@ -1,4 +1,5 @@
 pub mod Bytes
 pub mod Choice
 pub mod Class
+pub mod Local
 pub mod Prog

@@ -1,8 +1,1 @@
-// Only here so that the definitions of specs/ are checked.
-ghost use mathlib.Core.Path.{_≡_};
-
-pub fn same(x: u64) -> u64
-    ensures { λ r. ⌜ r ≡ x ⌝ }
-{
-    x
-}
+// Definitions of programs over a text, and their laws: there is no code, and the check is of specs/.

@@ -1,4 +1,5 @@
 -- A re-reading as a whole: the front, the first pass, the move, the second pass, and what all that leaves.
+-- What is kept in front is not touched, what is kept behind has moved as one stretch, and the pieces read fill the gap between.
 -- Assumes nothing.
 use mathlib.Core.Path.{_≡_, refl, sym, ap, _∙_, subst}
 use mathlib.Core.Bool.{true, false}
@@ -7,36 +8,38 @@ use Prim.Native.Nat.{ℕ, _+_, _-_, _*_, _≤_, _<_}
 use native.Mathlib.Omega.{arith}
 use lib.ListN.{length, take, drop, replicate, length-append, length-drop}
 use lib.Seq.{length-take-le, paste}
-use Rattle.records.specs.Pieces.{Old, oldSizes, oldWords, common, endOf, fine, refused, whole, no-at, count, left, pad, olds, again-left, behindFront, rest}
-use Rattle.grammar.specs.Again.{headAt, blockAt, rereadingOf}
+use Rattle.records.specs.Questions.{qOlder}
+use Rattle.records.specs.Limits.{halfLimit}
+use Rattle.records.specs.Pieces.{Old, oldSizes, oldWords, common, commonEnd, fine, refused, textAsked, refusedAt, count, left, pad, olds, again-left, behindFront, rest}
+use Rattle.grammar.specs.Function.{headAt, blockAt, rereadingOf}
 use Rattle.directory.specs.Olds.{answers, oldsOf, moved, FrontIs, KeptBehind}
 use Rattle.directory.specs.Place.{readSize, readWords, readEntries, Settled}
-use Rattle.directory.proofs.Compare.{common-take-right}
+use Rattle.texts.proofs.Compare.{common-take}
 use Rattle.directory.proofs.Links.{olds-length, words-split, chained-is}
 use Rattle.directory.proofs.Moved.{moved-length}
 use Rattle.directory.proofs.Place.{entries-length}
-use Rattle.directory.proofs.Final.{Put, put-taken, settled-entries, settled-words, settled-left, reread-whole, reread-unchained, reread-is, reread-refused}
-use Rattle.directory.proofs.Write.{settled-reads}
-use Rattle.reading.specs.First.{kept, keptSize, keptWords, behind, said, Given, Planned}
-use Rattle.reading.specs.Second.{read, Fit, Wrote}
-use Rattle.reading.proofs.Whole.{laws, not-long}
-use Rattle.reading.proofs.Dry.{kept-in, at-start, count-is, start-is, first-is}
+use Rattle.directory.proofs.Final.{Put, put-taken, settled-entries, settled-words, settled-left, reread-text, reread-unchained, reread-is, reread-refused}
+use Rattle.passes.proofs.Write.{settled-reads}
+use Rattle.passes.specs.First.{kept, keptSize, keptWords, behind, said, Given, Planned}
+use Rattle.passes.specs.Second.{read, Fit, Wrote}
+use Rattle.passes.proofs.Whole.{laws, not-long}
+use Rattle.passes.proofs.Dry.{kept-in, at-start, count-is, start-is, first-is}
 
 -- the front, as `kept_front` is asked for it
 pub front-common : (older newer : List ℕ) (a : ℕ) (os : List Old) (k start first : ℕ) → a ≡ length (common older newer) → FrontIs (take a newer) os k start first → FrontIs (common older newer) os k start first
-front-common older newer a os k start first q f = subst (λ (s : List ℕ). FrontIs s os k start first) (ap (λ (x : ℕ). take x newer) q ∙ common-take-right older newer) f
+front-common older newer a os k start first q f = subst (λ (s : List ℕ). FrontIs s os k start first) (ap (λ (x : ℕ). take x newer) q ∙ common-take older newer) f
 
 -- questions 1, 2 and 22
-pub again-whole : (ws dir : List ℕ) (n : ℕ) (older newer : List ℕ) (q p : ℕ) → refused q p ≡ whole newer → again-left (left (no-at q p) (pad (length ws) []) (pad (length dir) [])) 0 0 ≡ rereadingOf ws dir n older newer
+pub again-text : (ws dir : List ℕ) (n : ℕ) (older newer : List ℕ) (q p : ℕ) → refused q p ≡ textAsked newer → again-left (left (refusedAt q p) (pad (length ws) []) (pad (length dir) [])) 0 0 ≡ rereadingOf ws dir n older newer
 unfolding rereadingOf
-again-whole ws dir n older newer q p h = sym (reread-whole headAt blockAt ws dir n older newer q p (sym h))
+again-text ws dir n older newer q p h = sym (reread-text headAt blockAt ws dir n older newer q p (sym h))
 
-pub again-unchained : (ws dir : List ℕ) (n : ℕ) (older newer : List ℕ) → fine ≡ whole newer → false ≡ answers (olds (length older) (length ws) n dir)
-    → again-left (left (no-at 22 0) (pad (length ws) []) (pad (length dir) [])) 0 0 ≡ rereadingOf ws dir n older newer
+pub again-unchained : (ws dir : List ℕ) (n : ℕ) (older newer : List ℕ) → fine ≡ textAsked newer → false ≡ answers (olds (length older) (length ws) n dir)
+    → again-left (left (refusedAt qOlder 0) (pad (length ws) []) (pad (length dir) [])) 0 0 ≡ rereadingOf ws dir n older newer
 unfolding rereadingOf
 again-unchained ws dir n older newer h a = sym (reread-unchained headAt blockAt ws dir n older newer (sym h) (sym a))
 
-pub given : (ws dir : List ℕ) (n : ℕ) (older newer : List ℕ) → fine ≡ whole newer → true ≡ answers (olds (length older) (length ws) n dir) → Given older newer (length ws) n dir
+pub given : (ws dir : List ℕ) (n : ℕ) (older newer : List ℕ) → fine ≡ textAsked newer → true ≡ answers (olds (length older) (length ws) n dir) → Given older newer (length ws) n dir
 given ws dir n older newer h a = record { chained = chained-is (length older) (length ws) n dir (sym a); small = not-long newer h }
 
 -- a stretch that was moved within an array
@@ -46,12 +49,12 @@ paste-long d s at m h k =
     let b : length (take m s) ≡ m = length-take-le m s k in
     omega (arith, length-append (take at d) (take m s ++ drop (at + m) d), length-append (take m s) (drop (at + m) d), length-append (take at d ++ take m s) (drop (at + m) d), length-append (take at d) (take m s), length-drop (at + m) d)
 
-module _ (older newer ws : List ℕ) (n : ℕ) (dir : List ℕ) (g : Given older newer (length ws) n dir) (h : whole newer ≡ fine) where
-  rest-is : behind older newer (length ws) n dir ≡ behindFront headAt blockAt (endOf older newer) (length older) (oldsOf n dir) (kept older newer (length ws) n dir) newer
+module _ (older newer ws : List ℕ) (n : ℕ) (dir : List ℕ) (g : Given older newer (length ws) n dir) (h : textAsked newer ≡ fine) where
+  rest-is : behind older newer (length ws) n dir ≡ behindFront headAt blockAt (commonEnd older newer) (length older) (oldsOf n dir) (kept older newer (length ws) n dir) newer
   unfolding rest
   rest-is = refl
 
-  pub again-refused : (q p : ℕ) → said older newer (length ws) n dir ≡ refused q p → again-left (left (no-at q p) (pad (length ws) []) (pad (length dir) [])) 0 0 ≡ rereadingOf ws dir n older newer
+  pub again-refused : (q p : ℕ) → said older newer (length ws) n dir ≡ refused q p → again-left (left (refusedAt q p) (pad (length ws) []) (pad (length dir) [])) 0 0 ≡ rereadingOf ws dir n older newer
   unfolding rereadingOf
   again-refused q p v = sym (reread-refused headAt blockAt ws dir n older newer h (g .chained) q p v)
 
@@ -74,7 +77,7 @@ module _ (older newer ws : List ℕ) (n : ℕ) (dir : List ℕ) (g : Given older
     pub k-in : k ≤ i
     k-in = omega (arith, k-is, p .settled .number)
 
-    pub ends-in : pos + oldSizes (drop j (oldsOf n dir)) < 4294967296
+    pub ends-in : pos + oldSizes (drop j (oldsOf n dir)) < halfLimit
     ends-in = omega (arith, p .settled .ends, g .small)
 
     many-behind : length (drop j (oldsOf n dir)) ≡ n - j
@@ -86,7 +89,7 @@ module _ (older newer ws : List ℕ) (n : ℕ) (dir : List ℕ) (g : Given older
     -- what is read
     fs-is : p .settled .fs ≡ read newer k start i
     fs-is =
-        settled-reads headAt blockAt laws (length ws) (length dir) (length newer) (endOf older newer) (length older) n dir newer (said older newer (length ws) n dir) (behind older newer (length ws) n dir)
+        settled-reads headAt blockAt laws (length ws) (length dir) (length newer) (commonEnd older newer) (length older) n dir newer (said older newer (length ws) n dir) (behind older newer (length ws) n dir)
         (kept older newer (length ws) n dir) (keptSize older newer (length ws) n dir) (keptWords older newer (length ws) n dir) i pos at j rest-is refl s
         ∙ ap (λ (x : ℕ). read newer (kept older newer (length ws) n dir) x i) (sym pos-is)
         ∙ ap (λ (x : ℕ). read newer x start i) (sym k-is)

@@ -1,21 +1,17 @@
 // The full reading of one function, and its re-reading after an edit. Memory is lent: the words of the nodes, and the directory of the pieces.
-use crate::first::Plan;
-use crate::full::Written;
 use directory::arrays::clear;
-use directory::text::Verdict;
+use directory::older::Older;
+use passes::first::Known;
+use passes::first::Plan;
+use passes::full::Written;
+use texts::Verdict;
 ghost use mathlib.Core.Path.{_≡_};
 ghost use mathlib.Core.List.{[]};
 ghost use lib.ListN.{length};
-ghost use Rattle.records.specs.Pieces.{left, no-at, pad, again-left, whole, fine};
-ghost use Rattle.grammar.specs.Again.{readingOf, rereadingOf};
+ghost use Rattle.records.specs.Pieces.{left, refusedAt, pad, again-left, textAsked, fine};
+ghost use Rattle.grammar.specs.Function.{readingOf, rereadingOf};
 ghost use Rattle.reading.specs.Answer.{leftBy, leftAgain};
-ghost use Rattle.reading.specs.First.{Given};
-
-mod first; // first.rt: the first pass of a re-reading
-mod full; // full.rt: the full reading, piece by piece
-mod numbered; // numbered.rt: one piece by its number
-mod parts; // parts.rt: one piece
-mod second; // second.rt: the second pass of a re-reading
+ghost use Rattle.passes.specs.First.{Given};
 
 // A full reading is accepted, with so many entries; or refused, by that question at that place.
 pub enum Answer {
@@ -23,10 +19,16 @@ pub enum Answer {
     Refused(u64, u64),
 }
 
-// A re-reading is accepted, with so many entries, the number of the first piece read and how many are read; or refused, by that question at
-// that place.
+// What an accepted re-reading reports: how many entries there are, the number of the first piece read, and how many are read.
+pub struct Renewed {
+    pub entries: usize,
+    pub first: usize,
+    pub read: usize,
+}
+
+// A re-reading is accepted; or refused, by that question at that place.
 pub enum Reread {
-    Accepted(usize, usize, usize),
+    Accepted(Renewed),
     Refused(u64, u64),
 }
 
@@ -40,7 +42,7 @@ fn wipe(words: &mut [u64], directory: &mut [u64])
 
 // A refused reading.
 fn refuse(words: &mut [u64], directory: &mut [u64], q: u64, p: u64) -> Answer
-    ensures { λ r. ⌜ leftBy r (now (words .exit)) (now (directory .exit)) ≡ left (no-at q p) (pad (length (now (words .entry))) []) (pad (length (now (directory .entry))) []) ⌝ }
+    ensures { λ r. ⌜ leftBy r (now (words .exit)) (now (directory .exit)) ≡ left (refusedAt q p) (pad (length (now (words .entry))) []) (pad (length (now (directory .entry))) []) ⌝ }
 {
     wipe(words, directory);
     Answer::Refused(q, p)
@@ -48,7 +50,7 @@ fn refuse(words: &mut [u64], directory: &mut [u64], q: u64, p: u64) -> Answer
 
 // A refused re-reading.
 fn refuse_again(words: &mut [u64], directory: &mut [u64], q: u64, p: u64) -> Reread
-    ensures { λ r. ⌜ leftAgain r (now (words .exit)) (now (directory .exit)) ≡ again-left (left (no-at q p) (pad (length (now (words .entry))) []) (pad (length (now (directory .entry))) [])) 0 0 ⌝ }
+    ensures { λ r. ⌜ leftAgain r (now (words .exit)) (now (directory .exit)) ≡ again-left (left (refusedAt q p) (pad (length (now (words .entry))) []) (pad (length (now (directory .entry))) [])) 0 0 ⌝ }
 {
     wipe(words, directory);
     Reread::Refused(q, p)
@@ -58,16 +60,16 @@ fn refuse_again(words: &mut [u64], directory: &mut [u64], q: u64, p: u64) -> Rer
 pub fn parse_define(text: &[u8], words: &mut [u64], directory: &mut [u64]) -> Answer
     ensures { λ r. ⌜ leftBy r (now (words .exit)) (now (directory .exit)) ≡ readingOf (length (now (words .entry))) (length (now (directory .entry))) (now (text .entry)) ⌝ }
 {
-    match directory::text::whole(text) {
-        Verdict::Refused(q, p) => refuse(words, directory, q, p as u64),
+    match texts::text_asked(text) {
+        Verdict::Refused(q, p) => refuse(words, directory, q, p),
         Verdict::Fine => {
             let classes = lexer::classes();
-            match full::read_pieces(&classes, text, words, directory) {
+            match passes::full::read_pieces(&classes, text, words, directory) {
                 Written::Refused(q, p) => refuse(words, directory, q, p),
-                Written::All(i, at) => {
-                    clear(words, at);
-                    clear(directory, i * 2);
-                    Answer::Accepted(i)
+                Written::All(entries, word) => {
+                    clear(words, word);
+                    clear(directory, entries * 2);
+                    Answer::Accepted(entries)
                 }
             }
         }
@@ -83,37 +85,32 @@ fn read_again(
     directory: &mut [u64],
     entries: usize,
 ) -> Reread
-    requires { ⌜ whole (now newer) ≡ fine ⌝ }
+    requires { ⌜ textAsked (now newer) ≡ fine ⌝ }
     requires { ⌜ Given (now older) (now newer) (length (now words)) entries (now directory) ⌝ }
     ensures { λ r. ⌜ leftAgain r (now (words .exit)) (now (directory .exit)) ≡ rereadingOf (now (words .entry)) (now (directory .entry)) entries (now (older .entry)) (now (newer .entry)) ⌝ }
 {
     let classes = lexer::classes();
-    let a = directory::text::common(older, newer);
-    let c = directory::text::common_end(older, newer, a);
+    let a = texts::common(older, newer);
+    let c = texts::common_end(older, newer, a);
     let front = directory::kept::kept_front(newer, a, directory, entries);
-    let k = front.count;
-    let start = front.pos;
-    let first = front.at;
-    match first::read_dry(
-        &classes,
-        older,
-        newer,
-        c,
-        directory,
-        words.len(),
+    let known = Known {
+        end: c,
+        words: words.len(),
         entries,
-        k,
-        start,
-        first,
-    ) {
+    };
+    match passes::first::read_dry(&classes, older, newer, directory, known, front) {
         Plan::Refused(q, p) => refuse_again(words, directory, q, p),
-        Plan::Keep(i, pos, at, j) => {
-            let end = directory::kept::keep_behind(words, directory, entries, j, i, pos, at);
-            second::write(&classes, newer, words, directory, k, start, first, i, at);
-            let count = i + (entries - j);
+        Plan::Keep(behind, from) => {
+            let end = directory::kept::keep_behind(words, directory, entries, from, behind);
+            passes::second::write(&classes, newer, words, directory, front, behind);
+            let count = behind.number + (entries - from);
             clear(words, end);
             clear(directory, count * 2);
-            Reread::Accepted(count, k, i - k)
+            Reread::Accepted(Renewed {
+                entries: count,
+                first: front.number,
+                read: behind.number - front.number,
+            })
         }
     }
 }
@@ -129,13 +126,17 @@ pub fn reparse_define(
 ) -> Reread
     ensures { λ r. ⌜ leftAgain r (now (words .exit)) (now (directory .exit)) ≡ rereadingOf (now (words .entry)) (now (directory .entry)) entries (now (older .entry)) (now (newer .entry)) ⌝ }
 {
-    match directory::text::whole(newer) {
-        Verdict::Refused(q, p) => refuse_again(words, directory, q, p as u64),
+    match texts::text_asked(newer) {
+        Verdict::Refused(q, p) => refuse_again(words, directory, q, p),
         Verdict::Fine => {
-            if directory::older::chained(directory, entries, older.len(), words.len()) {
+            let old = Older {
+                entries,
+                words: words.len(),
+            };
+            if directory::older::chained(directory, old, older.len()) {
                 return read_again(older, newer, words, directory, entries);
             }
-            refuse_again(words, directory, 22, 0)
+            refuse_again(words, directory, records::Q_OLDER, 0)
         }
     }
 }

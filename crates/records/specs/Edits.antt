@@ -2,17 +2,16 @@
 -- tail ends at `}`; the words of a head or block are its bytes but those spaces. What an edit of a definition changes shows here.
 -- Assumes nothing.
 use mathlib.Core.Path.{_≡_, refl}
-use mathlib.Core.Bool.{Bool, true, false, _||_}
+use mathlib.Core.Bool.{true, false, _||_}
 use mathlib.Core.Option.{Option, none, some}
 use mathlib.Core.List.{List, [], _∷_, _++_, map}
-use Prim.Native.Nat.{ℕ, zero, suc, _+_, _/_, _%_}
+use Prim.Native.Nat.{ℕ, _+_}
 use lib.Dec.{eqb}
-use lib.ListN.{length}
 use Rattle.program.specs.Bytes.{bytes, byte}
 use Rattle.program.specs.Choice.{pick}
 use Rattle.program.specs.Class.{classOf, isWord}
 use Rattle.program.specs.Prog.{Prog, ret, fail, look, eat, here, scan, last, run, _>>=_, byteAt, scanLen, ends}
-use Rattle.records.specs.Words.{pack}
+use Rattle.records.specs.Words.{pack, hi, lo}
 use Rattle.records.specs.Pieces as Pieces
 use Rattle.records.specs.Piece.{headOf, blockOf}
 
@@ -51,22 +50,22 @@ pub data Edit : Type 0 where
 
 abbrev pub parts : List ℕ → List ℕ
 parts [] = []
-parts (x ∷ xs) = x / 4294967296 ∷ x % 4294967296 ∷ parts xs
+parts (x ∷ xs) = hi x ∷ lo x ∷ parts xs
 
 -- Refused: 0, number, place, both arrays. Accepted: 1, first, read, the entry count, the words, the directory's fields.
 abbrev pub shownLeft : ℕ → ℕ → Pieces.Left → List ℕ
-shownLeft a b (Pieces.left (Pieces.Answer.no-at q p) ws ds) = 0 ∷ q ∷ p ∷ (ws ++ ds)
+shownLeft a b (Pieces.left (Pieces.refusedAt q p) ws ds) = 0 ∷ q ∷ p ∷ (ws ++ ds)
 shownLeft a b (Pieces.left (Pieces.count n) ws ds) = 1 ∷ a ∷ b ∷ n ∷ (ws ++ parts ds)
 
 abbrev pub shown : Pieces.Again → List ℕ
 shown (Pieces.again-left l a b) = shownLeft a b l
 
 abbrev pub againOn : Pieces.Left → List ℕ → List ℕ → List ℕ
-againOn (Pieces.left (Pieces.Answer.no-at q p) ws ds) older newer = 9 ∷ q ∷ p ∷ []
+againOn (Pieces.left (Pieces.refusedAt q p) ws ds) older newer = 9 ∷ q ∷ p ∷ []
 againOn (Pieces.left (Pieces.count n) ws ds) older newer = shown (Pieces.reread headAt blockAt ws ds n older newer)
 
 unfoldable pub outcome : Edit → List ℕ
-unfolding classOf isWord byteAt scanLen run _>>=_ ends pack Pieces.mapRun Pieces.firstHigh Pieces.whole Pieces.judge Pieces.pad Pieces.allWords Pieces.entries Pieces.countRun Pieces.leave Pieces.andThen Pieces.consOld Pieces.chain Pieces.olds Pieces.common Pieces.commonEnd Pieces.leads Pieces.addrspace Pieces.closes Pieces.keptRest Pieces.keptFront Pieces.size Pieces.wordsOf Pieces.isFresh Pieces.sumRun Pieces.before Pieces.oldSizes Pieces.oldWords Pieces.from Pieces.fromBlocks Pieces.joins Pieces.endOf Pieces.leftOf Pieces.leaveAgain Pieces.blocksIn Pieces.blocks Pieces.reading Pieces.fullVerdict Pieces.full Pieces.againIn Pieces.again Pieces.behindFront Pieces.keeps Pieces.rest Pieces.judgeAgain Pieces.rereadOf Pieces.reread headOf blockOf toHead toBlock spaces smallHead smallBlock headAt blockAt
+unfolding classOf isWord byteAt scanLen run _>>=_ ends pack Pieces.mapRun Pieces.firstHigh Pieces.textAsked Pieces.judge Pieces.pad Pieces.allWords Pieces.entries Pieces.countRun Pieces.leave Pieces.andThen Pieces.consOld Pieces.chain Pieces.olds Pieces.common Pieces.endBehind Pieces.commonEnd Pieces.leads Pieces.addrspace Pieces.closes Pieces.keptRest Pieces.keptFront Pieces.size Pieces.sourceWords Pieces.isFresh Pieces.sumRun Pieces.before Pieces.oldSizes Pieces.oldWords Pieces.from Pieces.fromBlocks Pieces.joins Pieces.leftOf Pieces.leaveAgain Pieces.blocksIn Pieces.blocks Pieces.reading Pieces.fullVerdict Pieces.full Pieces.againIn Pieces.again Pieces.behindFront Pieces.keeps Pieces.rest Pieces.judgeAgain Pieces.rereadOf Pieces.reread headOf blockOf toHead toBlock spaces smallHead smallBlock headAt blockAt
 outcome (edit (made w d) older newer) = againOn (Pieces.full headAt blockAt w d older) older newer
 outcome (edit (lent ws ds n) older newer) = shown (Pieces.reread headAt blockAt ws ds n older newer)
 

@@ -1,7 +1,8 @@
+pub mod Limits
 pub mod Words
+pub mod Kinds
+pub mod Details
+pub mod Questions
 pub mod Pieces
-pub mod Law
-pub mod Same
 pub mod Piece
 pub mod Edits
-pub mod Older

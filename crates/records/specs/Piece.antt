@@ -1,15 +1,9 @@
--- Any two programs make a reader of pieces, and demand 3's properties of it are theorems about programs.
+-- A reader of pieces from two programs.
 -- Assumes nothing.
-use mathlib.Core.Path.{_≡_, refl, sym, ap, _∙_}
-use mathlib.Core.Bool.{Bool, true, false, _&&_, not}
-use mathlib.Core.List.{List, [], _∷_, _++_}
-use Prim.Native.Nat.{ℕ, _+_, _≤_, _<_}
-use native.Mathlib.Nat.{zero-add}
-use native.Mathlib.Omega.{arith}
-use lib.ListN.{length, drop}
-use Rattle.program.specs.Prog.{Prog, Res, ok, closed, no-at, run, ends, EndsAt, mono, local, closed-range, closed-local, and-left}
-use Rattle.records.specs.Pieces.{HeadRead, head, badHead, BlockRead, block, tail, badBlock, leads, addrspace, closes}
-use Rattle.records.specs.Law.{Grammar}
+use mathlib.Core.List.{List}
+use Prim.Native.Nat.{ℕ}
+use Rattle.program.specs.Prog.{Prog, Res, ok, closed, no-at, run}
+use Rattle.records.specs.Pieces.{HeadRead, head, badHead, BlockRead, block, tail, badBlock}
 
 -- A reader of pieces from two programs. The head ends with its closing byte, so does the tail; a block ends by `ret`.
 unfoldable pub headOf : Res (List ℕ) → HeadRead
@@ -22,47 +16,9 @@ blockOf (ok ws j) = block j ws
 blockOf (closed ws j) = tail j
 blockOf (no-at q p) = badBlock q p
 
-block-is : (r : Res (List ℕ)) (e : ℕ) (ws : List ℕ) → blockOf r ≡ block e ws → r ≡ ok ws e
-unfolding blockOf
-block-is (ok v j) e ws h = cc
-block-is (closed v j) e ws h = let z : _≡_ {A = ℕ} 0 1 = cc in absurd (omega arith)
-block-is (no-at q p) e ws h = let z : _≡_ {A = ℕ} 0 1 = cc in absurd (omega arith)
+-- What reading at a piece's start gives, by a program for the head and one for a block or the tail.
+unfoldable pub headRead : Prog (List ℕ) → List ℕ → HeadRead
+headRead f s = headOf (run f 0 s)
 
-tail-is : (r : Res (List ℕ)) (e : ℕ) → blockOf r ≡ tail e → (ws : List ℕ) × (r ≡ closed ws e)
-unfolding blockOf
-tail-is (ok v j) e h = let z : _≡_ {A = ℕ} 0 1 = cc in absurd (omega arith)
-tail-is (closed v j) e h = (v, cc)
-tail-is (no-at q p) e h = let z : _≡_ {A = ℕ} 0 1 = cc in absurd (omega arith)
-
-head-is : (r : Res (List ℕ)) (e : ℕ) (ws : List ℕ) → headOf r ≡ head e ws → r ≡ closed ws e
-unfolding headOf
-head-is (ok v j) e ws h = let z : _≡_ {A = ℕ} 0 1 = cc in absurd (omega arith)
-head-is (closed v j) e ws h = cc
-head-is (no-at q p) e ws h = let z : _≡_ {A = ℕ} 0 1 = cc in absurd (omega arith)
-
--- Any two programs whose block moves on make a reader of pieces that demand 3 holds for.
-module _ (headP blockP : Prog (List ℕ)) (moves : (s : List ℕ) (e : ℕ) (ws : List ℕ) → run blockP 0 s ≡ ok ws e → 1 ≤ e) where
-  unfoldable pub headRead : List ℕ → HeadRead
-  headRead s = headOf (run headP 0 s)
-
-  unfoldable pub blockRead : List ℕ → BlockRead
-  blockRead s = blockOf (run blockP 0 s)
-
-  block-fits : (s : List ℕ) (e : ℕ) (ws : List ℕ) → run blockP 0 s ≡ ok ws e → e ≤ length s
-  block-fits s e ws h = let r : (0 ≤ e) × (e ≤ 0 + length s) = mono blockP 0 e s (rw h refl) in omega arith
-
-  block-local : (xs ys zs : List ℕ) (e : ℕ) (ws : List ℕ) → run blockP 0 (xs ++ ys) ≡ ok ws e → closes (drop e xs) ≡ true → run blockP 0 (xs ++ zs) ≡ run blockP 0 (xs ++ ys)
-  unfolding closes
-  block-local xs ys zs e ws h c = local blockP 0 e xs ys zs (rw (h, zero-add e)) (and-left (ends (drop e xs)) (not (leads addrspace (drop e xs))) c)
-
-  pub grammar : Grammar headRead blockRead
-  unfolding headRead blockRead
-  grammar = record {
-    head-fits = λ s e ws h. omega (arith, closed-range headP 0 e s ws (head-is (run headP 0 s) e ws h) .1);
-    block-moves = λ s e ws h. moves s e ws (block-is (run blockP 0 s) e ws h);
-    block-fits = λ s e ws h. block-fits s e ws (block-is (run blockP 0 s) e ws h);
-    tail-fits = λ s e h. omega (arith, closed-range blockP 0 e s (tail-is (run blockP 0 s) e h .0) (tail-is (run blockP 0 s) e h .1) .1);
-    head-local = λ xs ys zs e ws h l. ap headOf (closed-local headP xs ys zs e ws (head-is (run headP 0 (xs ++ ys)) e ws h) (omega arith)) ∙ h;
-    block-local = λ xs ys zs e ws h a c. ap blockOf (block-local xs ys zs e ws (block-is (run blockP 0 (xs ++ ys)) e ws h) c) ∙ h;
-    tail-local = λ xs ys zs e h l. ap blockOf (closed-local blockP xs ys zs e (tail-is (run blockP 0 (xs ++ ys)) e h .0) (tail-is (run blockP 0 (xs ++ ys)) e h .1) (omega arith)) ∙ h;
-  }
+unfoldable pub blockRead : Prog (List ℕ) → List ℕ → BlockRead
+blockRead f s = blockOf (run f 0 s)

@@ -1,15 +1,16 @@
 -- Reading a text by pieces, and re-reading after an edit, over any reader of one piece. Definitions only.
-use mathlib.Core.Path.{_≡_, refl}
 use mathlib.Core.Bool.{Bool, true, false, _&&_, not}
 use mathlib.Core.Option.{Option, none, some}
-use mathlib.Core.List.{List, [], _∷_, _++_, map}
-use Prim.Native.Nat.{ℕ, zero, suc, _+_, _-_, _*_, _/_, _%_, _^_}
+use mathlib.Core.List.{List, [], _∷_, _++_, reverse}
+use Prim.Native.Nat.{ℕ, zero, suc, _+_, _-_, _*_}
 use lib.Dec.{ltb, leb, eqb}
-use lib.ListN.{length, take, drop, getD, replicate}
+use lib.ListN.{length, take, drop, replicate}
 use Rattle.program.specs.Bytes.{bytes}
 use Rattle.program.specs.Class.{isWord}
 use Rattle.program.specs.Prog.{ends}
-use Rattle.records.specs.Words.{pack}
+use Rattle.records.specs.Limits.{halfLimit, textLimit, byteLimit}
+use Rattle.records.specs.Words.{pack, hi, lo}
+use Rattle.records.specs.Questions.{qLength, qAscii, qWords, qEntries, qOlder}
 
 -- What reading at the start of a suffix of the text gives.
 pub data HeadRead : Type 0 where
@@ -39,10 +40,10 @@ pub data Verdict : Type 0 where
 
 unfoldable pub firstHigh : ℕ → List ℕ → Verdict
 firstHigh i [] = fine
-firstHigh i (x ∷ xs) = elim (leb x 127) [ true ↦ firstHigh (suc i) xs | false ↦ refused 2 i ]
+firstHigh i (x ∷ xs) = elim (leb x byteLimit) [ true ↦ firstHigh (suc i) xs | false ↦ refused qAscii i ]
 
-unfoldable pub whole : List ℕ → Verdict
-whole text = elim (leb (length text) 16777216) [ true ↦ firstHigh 0 text | false ↦ refused 1 16777216 ]
+unfoldable pub textAsked : List ℕ → Verdict
+textAsked text = elim (leb (length text) textLimit) [ true ↦ firstHigh 0 text | false ↦ refused qLength textLimit ]
 
 -- Questions 20 and 21, asked of the pieces of a run in order; the run's own refusal in its turn.
 -- `words`, `dir`: the lengths of the lent arrays. `i`, `pos`, `at`: number, start and first word of the next piece.
@@ -50,9 +51,9 @@ unfoldable pub judge : (words dir i pos at : ℕ) → Run ℕ → Verdict
 judge words dir i pos at done = fine
 judge words dir i pos at (stop q p) = refused q (pos + p)
 judge words dir i pos at (item e n r) =
-    elim (leb (at + n) words && ltb (at + n) 4294967296) [
-      | true ↦ elim (leb (i * 2 + 2) dir) [ true ↦ judge words dir (suc i) (pos + e) (at + n) r | false ↦ refused 21 (pos + e) ]
-      | false ↦ refused 20 (pos + e)
+    elim (leb (at + n) words && ltb (at + n) halfLimit) [
+      | true ↦ elim (leb (i * 2 + 2) dir) [ true ↦ judge words dir (suc i) (pos + e) (at + n) r | false ↦ refused qEntries (pos + e) ]
+      | false ↦ refused qWords (pos + e)
     ]
 
 -- The arrays that a list of pieces leaves.
@@ -76,7 +77,7 @@ countRun (item e a r) = suc (countRun r)
 
 -- What a call leaves: both arrays whole, and the answer. A refusal leaves zeros.
 pub data Answer : Type 0 where
-  no-at : ℕ → ℕ → Answer  -- number, place
+  refusedAt : ℕ → ℕ → Answer  -- number, place
   count : ℕ → Answer  -- entry count
 
 pub data Left : Type 0 where
@@ -84,7 +85,7 @@ pub data Left : Type 0 where
 
 unfoldable pub leave : (words dir : ℕ) → Verdict → Run (List ℕ) → Left
 leave words dir fine r = left (count (countRun r)) (pad words (allWords r)) (pad dir (entries 0 0 r))
-leave words dir (refused q p) r = left (no-at q p) (pad words []) (pad dir [])
+leave words dir (refused q p) r = left (refusedAt q p) (pad words []) (pad dir [])
 
 -- If the first verdict is fine, the second decides.
 unfoldable pub andThen : Verdict → Verdict → Verdict
@@ -104,24 +105,25 @@ chain text words zero pos at dir = some []
 chain text words (suc n) pos at [] = none
 chain text words (suc n) pos at (x ∷ []) = none
 chain text words (suc n) pos at (x ∷ y ∷ dir) =
-    elim (eqb (x / 4294967296) pos && eqb (y / 4294967296) at && leb (pos + x % 4294967296) text && leb (at + y % 4294967296) words) [
-      | true ↦ consOld (old (x % 4294967296) at (y % 4294967296)) (chain text words n (pos + x % 4294967296) (at + y % 4294967296) dir)
+    elim (eqb (hi x) pos && eqb (hi y) at && leb (pos + lo x) text && leb (at + lo y) words) [
+      | true ↦ consOld (old (lo x) at (lo y)) (chain text words n (pos + lo x) (at + lo y) dir)
       | false ↦ none
     ]
 
 unfoldable pub olds : (text words n : ℕ) → List ℕ → Option (List Old)
 olds text words n dir = elim (leb 2 n) [ true ↦ chain text words n 0 0 dir | false ↦ none ]
 
--- The longest common prefix, and the length of the longest common suffix.
-unfoldable pub common : List ℕ → List ℕ → List ℕ
+-- "let a be the longest common prefix of older and newer, c the longest common suffix of what remains of both"
+unfoldable pub common : (older newer : List ℕ) → List ℕ
 common [] ys = []
 common (x ∷ xs) [] = []
 common (x ∷ xs) (y ∷ ys) = elim (eqb x y) [ true ↦ x ∷ common xs ys | false ↦ [] ]
 
-unfoldable pub commonEnd : (i j : ℕ) → List ℕ → List ℕ → ℕ
-commonEnd zero j xs ys = 0
-commonEnd (suc i) zero xs ys = 0
-commonEnd (suc i) (suc j) xs ys = elim (eqb (getD xs i 0) (getD ys j 0)) [ true ↦ suc (commonEnd i j xs ys) | false ↦ 0 ]
+unfoldable pub endBehind : (a : ℕ) (older newer : List ℕ) → ℕ
+endBehind a older newer = length (common (reverse (drop a older)) (reverse (drop a newer)))
+
+unfoldable pub commonEnd : (older newer : List ℕ) → ℕ
+commonEnd older newer = endBehind (length (common older newer)) older newer
 
 -- `leads w s`: s begins with exactly the word w and a byte that is no letter, digit or `_`.
 unfoldable pub leads : List ℕ → List ℕ → Bool
@@ -156,9 +158,9 @@ unfoldable pub size : Source → ℕ
 size (fresh ws) = length ws
 size (kept f n) = n
 
-unfoldable pub wordsOf : List ℕ → Source → List ℕ
-wordsOf words (fresh ws) = ws
-wordsOf words (kept f n) = take n (drop f words)
+unfoldable pub sourceWords : List ℕ → Source → List ℕ
+sourceWords words (fresh ws) = ws
+sourceWords words (kept f n) = take n (drop f words)
 
 unfoldable pub isFresh : Source → ℕ
 isFresh (fresh ws) = 1
@@ -196,11 +198,6 @@ fromBlocks target (old e f n ∷ os) = from target e os
 unfoldable pub joins : (c olen : ℕ) (os : List Old) → List ℕ → Option (List Old)
 joins c olen os s = elim (leb (length s) c) [ true ↦ fromBlocks (olen - length s) os | false ↦ none ]
 
-unfoldable pub endOf : (older newer : List ℕ) → ℕ
-endOf older newer =
-    commonEnd (length older - length (common older newer)) (length newer - length (common older newer))
-    (drop (length (common older newer)) older) (drop (length (common older newer)) newer)
-
 -- What re-reading leaves: arrays and answer, the number of the first piece read, and how many are read.
 pub data Again : Type 0 where
   again-left : Left → ℕ → ℕ → Again
@@ -209,8 +206,8 @@ unfoldable pub leftOf : Again → Left
 leftOf (again-left l a b) = l
 
 unfoldable pub leaveAgain : (words : List ℕ) (dir : ℕ) → Verdict → ℕ → Run Source → Run Source → Again
-leaveAgain words dir fine k r all = again-left (leave (length words) dir fine (mapRun (wordsOf words) all)) k (sumRun (mapRun isFresh r))
-leaveAgain words dir (refused q p) k r all = again-left (leave (length words) dir (refused q p) (mapRun (wordsOf words) all)) 0 0
+leaveAgain words dir fine k r all = again-left (leave (length words) dir fine (mapRun (sourceWords words) all)) k (sumRun (mapRun isFresh r))
+leaveAgain words dir (refused q p) k r all = again-left (leave (length words) dir (refused q p) (mapRun (sourceWords words) all)) 0 0
 
 module _ (headAt : List ℕ → HeadRead) (blockAt : List ℕ → BlockRead) where
   -- A full reading.
@@ -230,7 +227,7 @@ module _ (headAt : List ℕ → HeadRead) (blockAt : List ℕ → BlockRead) whe
   reading s = elim (headAt s) [ head e ws ↦ item e ws (blocks (drop e s)) | badHead q p ↦ stop q p ]
 
   unfoldable pub fullVerdict : (words dir : ℕ) → List ℕ → Verdict
-  fullVerdict words dir text = andThen (whole text) (judge words dir 0 0 0 (mapRun length (reading text)))
+  fullVerdict words dir text = andThen (textAsked text) (judge words dir 0 0 0 (mapRun length (reading text)))
 
   unfoldable pub full : (words dir : ℕ) → List ℕ → Left
   full words dir text = leave words dir (fullVerdict words dir text) (reading text)
@@ -264,16 +261,16 @@ module _ (headAt : List ℕ → HeadRead) (blockAt : List ℕ → BlockRead) whe
   keeps older newer os = keptFront (common older newer) os
 
   unfoldable pub rest : (older newer : List ℕ) → List Old → Run Source
-  rest older newer os = behindFront (endOf older newer) (length older) os (keeps older newer os) newer
+  rest older newer os = behindFront (commonEnd older newer) (length older) os (keeps older newer os) newer
 
   unfoldable pub judgeAgain : (words dir : ℕ) (older newer : List ℕ) → List Old → Verdict
   judgeAgain words dir older newer os =
       judge words dir (keeps older newer os) (oldSizes (take (keeps older newer os) os)) (oldWords (take (keeps older newer os) os)) (mapRun size (rest older newer os))
 
   unfoldable pub rereadOf : (words dir : List ℕ) (older newer : List ℕ) → Option (List Old) → Again
-  rereadOf words dir older newer none = leaveAgain words (length dir) (andThen (whole newer) (refused 22 0)) 0 done done
+  rereadOf words dir older newer none = leaveAgain words (length dir) (andThen (textAsked newer) (refused qOlder 0)) 0 done done
   rereadOf words dir older newer (some os) =
-      leaveAgain words (length dir) (andThen (whole newer) (judgeAgain (length words) (length dir) older newer os))
+      leaveAgain words (length dir) (andThen (textAsked newer) (judgeAgain (length words) (length dir) older newer os))
       (keeps older newer os) (rest older newer os) (before (take (keeps older newer os) os) (rest older newer os))
 
   unfoldable pub reread : (words dir : List ℕ) (n : ℕ) (older newer : List ℕ) → Again

@@ -1,1 +1,2 @@
+pub mod OpcodeLaws
 pub mod StatementLaws

@@ -1,4 +1,4 @@
--- The laws of opcodes and of statements.
+-- The laws of opcodes and of statements: a keyword that a word spells has its rank, and what a statement gives is told by its kind.
 -- Assumes nothing.
 use mathlib.Core.Path.{_≡_, refl, sym, ap, _∙_, subst}
 use mathlib.Core.Bool.{Bool, true, false, _&&_}
@@ -10,16 +10,16 @@ use lib.ListN.{length, take, drop, length-drop}
 use borrow.Author.Tests.{eqb-true}
 use Rattle.program.specs.Prog.{Prog, ret, Res, ok, run, _>>=_}
 use Rattle.records.specs.Words.{pack}
-use Rattle.grammar.specs.Lexer.{refuse, sameWord, rank, byteIf, Word, plain, quoted, sizeOf, spelled, readWord}
+use Rattle.grammar.specs.Lexer.{refuse, sameWord, rank, byteIf, Word, plain, quoted, sizeOf, isEmpty, isEmptyWord, spelled, readWord}
 use Rattle.grammar.specs.Body.{Statement, label, instruction, opcode, statementOf}
-use Rattle.lexer.specs.Names.{hollow, part, isQuoted, inner, rawWord}
+use Rattle.names.specs.Names.{part, isQuoted, inner, rawWord}
 use Rattle.lexer.specs.Reads.{Budget, At, Ends, at, out, Leads, Goal, made, Gave, got, not as is-not, Gives}
 use Rattle.lexer.specs.declared.Cursor.{Cursor}
 use Rattle.lexer.specs.declared.Parsed.{Parsed}
 use Rattle.lexer.proofs.Laws.{after, bind-at, true-false, at-less, at-place, at-part, at-whole, spare}
-use Rattle.lexer.proofs.Passed.{word-long}
-use Rattle.instructions.specs.Rich.{richly}
-use Rattle.instructions.proofs.RichLaws.{enrich}
+use Rattle.names.proofs.Passed.{word-long}
+use Rattle.operands.specs.Rich.{richly}
+use Rattle.operands.proofs.RichLaws.{enrich}
 use Rattle.statements.specs.Stated.{Which, a-label, an-instruction, StatementEnds, stated-at, no-statement, stated}
 
 -- ---- opcodes
@@ -94,14 +94,14 @@ is-label {c} {text} {p0} {p} {w} i n m from to e s l f = record {
 }
 
 -- a word with bytes in it, which pay for three words
-hollow-size : (w : Word) → hollow w ≡ false → 1 ≤ sizeOf w
-unfolding hollow sizeOf
-hollow-size (plain []) h = true-false (sym h)
-hollow-size (plain (x ∷ w)) h = omega arith
-hollow-size (quoted []) h = true-false (sym h)
-hollow-size (quoted (x ∷ w)) h = omega arith
+filled-size : (w : Word) → isEmptyWord w ≡ false → 1 ≤ sizeOf w
+unfolding isEmptyWord isEmpty sizeOf
+filled-size (plain []) h = true-false (sym h)
+filled-size (plain (x ∷ w)) h = omega arith
+filled-size (quoted []) h = true-false (sym h)
+filled-size (quoted (x ∷ w)) h = omega arith
 
-pub word-then : {B : Type 0} (h : Word → Prog B) {v : Word} {c : ℕ} {mid : List ℕ} {E : Goal B} {text : List ℕ} {p0 p p1 p′ : Parsed} {w w′ : List ℕ} → Gives readWord v text p p1 → hollow v ≡ false → Leads (h v) (c + 3) mid E text p0 p1 w p′ w′ → Leads (readWord >>= h) c mid E text p0 p w p′ w′
+pub word-then : {B : Type 0} (h : Word → Prog B) {v : Word} {c : ℕ} {mid : List ℕ} {E : Goal B} {text : List ℕ} {p0 p p1 p′ : Parsed} {w w′ : List ℕ} → Gives readWord v text p p1 → isEmptyWord v ≡ false → Leads (h v) (c + 3) mid E text p0 p1 w p′ w′ → Leads (readWord >>= h) c mid E text p0 p w p′ w′
 unfolding after
 word-then {B} h {v} {c} {mid} {E} {text} {p0} {p} {p1} {p′} {w} {w′} r n s = record {
   runs = λ b low k cur e i. subst (λ (z : Res B). E .ends b k low z p′ w′) (sym (bind-at readWord h text (cur .at))) (go b low k cur i (λ j x. word-long (cur .at) j (drop (cur .at) text) v x) s (r .runs cur e (record { inside = i .inside; small = i .small })));
@@ -109,20 +109,14 @@ word-then {B} h {v} {c} {mid} {E} {text} {p0} {p} {p1} {p′} {w} {w′} r n s =
 }
   where
     go : (b : Budget) (low : List ℕ) (k : ℕ) (cur : Cursor) → At b text p0 (c + k) low mid cur w → {z : Res Word} → ((j : ℕ) → z ≡ ok v j → cur .at + sizeOf v ≤ j) → {y : Parsed} → Leads (h v) (c + 3) mid E text p0 y w p′ w′ → Gave text v (cur .at) (cur .w) z y → E .ends b k low (after h text z) p′ w′
-    go b low k cur i o t (got {cur = cur2} l x y) = t .runs b low k cur2 refl (subst (λ (u : ℕ). At b text p0 (c + 3 + k) low mid (record { at = cur2 .at; w = u }) w) (sym y) (at-place (cur2 .at) (c + 3 + k) l x (omega (arith, o (cur2 .at) refl, hollow-size v n)) i))
+    go b low k cur i o t (got {cur = cur2} l x y) = t .runs b low k cur2 refl (subst (λ (u : ℕ). At b text p0 (c + 3 + k) low mid (record { at = cur2 .at; w = u }) w) (sym y) (at-place (cur2 .at) (c + 3 + k) l x (omega (arith, o (cur2 .at) refl, filled-size v n)) i))
     go b low k cur i o t (is-not {e = e} {q = q}) = rw (t .hands e q refl) (E .outs b k low e q w′)
 
 module _ {c : ℕ} {mid : List ℕ} {E : Goal Statement} {text : List ℕ} {p0 p p′ : Parsed} {w w′ : List ℕ} (i : ℕ) where
-  pub statement-none : (v : Word) → hollow v ≡ true → Leads (refuse 8) c mid E text p0 p w p′ w′ → Leads (statementOf i v) c mid E text p0 p w p′ w′
-  unfolding statementOf hollow
-  statement-none (plain []) h f = f
-  statement-none (plain (x ∷ v)) h f = true-false h
-  statement-none (quoted []) h f = f
-  statement-none (quoted (x ∷ v)) h f = true-false h
+  pub statement-none : (v : Word) → isEmptyWord v ≡ true → Leads (refuse 8) c mid E text p0 p w p′ w′ → Leads (statementOf i v) c mid E text p0 p w p′ w′
+  unfolding statementOf
+  statement-none v h f = rw (statementOf, h) f
 
-  pub statement-some : (v : Word) → hollow v ≡ false → Leads (byteIf 58 (ret (label (pack i (sizeOf v)))) (opcode (spelled v))) c mid E text p0 p w p′ w′ → Leads (statementOf i v) c mid E text p0 p w p′ w′
-  unfolding statementOf hollow
-  statement-some (plain []) h f = true-false (sym h)
-  statement-some (plain (x ∷ v)) h f = f
-  statement-some (quoted []) h f = true-false (sym h)
-  statement-some (quoted (x ∷ v)) h f = f
+  pub statement-some : (v : Word) → isEmptyWord v ≡ false → Leads (byteIf 58 (ret (label (pack i (sizeOf v)))) (opcode (spelled v))) c mid E text p0 p w p′ w′ → Leads (statementOf i v) c mid E text p0 p w p′ w′
+  unfolding statementOf
+  statement-some v h f = rw (statementOf, h) f

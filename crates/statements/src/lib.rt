@@ -1,13 +1,12 @@
 // Statements (parser.rs `parse_body`, `parse_value_inst`): a label, an instruction or a terminator, by its first word.
 pub mod opcodes; // opcodes.rt: the rank of an opcode
-pub mod ranks; // ranks.rt: the reader of each opcode
 
 use lexer::Parsed;
-ghost use mathlib.Core.List.{List, []};
+ghost use mathlib.Core.List.{[]};
 ghost use Rattle.grammar.specs.Body.{instruction, parseInst, wordStatement, parseStatement};
 ghost use Rattle.lexer.specs.Table.{Classes};
 ghost use Rattle.lexer.specs.Reads.{Leads, made};
-ghost use Rattle.instructions.specs.Rich.{richly};
+ghost use Rattle.operands.specs.Rich.{richly};
 ghost use Rattle.statements.specs.Stated.{stated};
 
 // Where the reader is behind a statement, and which it was: 0 a label, whose word is `label`, 1 an instruction, 2 a terminator.
@@ -22,14 +21,14 @@ fn parse_inst(classes: &[u8; 256], text: &[u8], words: &mut [u64], p: Parsed) ->
     requires { ⌜ Classes (now classes) ⌝ }
     ensures { λ r. ⌜ Leads parseInst 3 [] (richly (now (text .entry)) (made instruction (now (text .entry)) p)) (now (text .entry)) p p (now (words .entry)) r (now (words .exit)) ⌝ }
 {
-    let d = lexer::name_word(classes, text, p);
+    let d = names::name_word(classes, text, p);
     let p1 = d.p;
-    let p2 = lexer::expect_token(classes, text, p1, 61);
+    let p2 = lexer::expect_token(classes, text, p1, b'=');
     let p3 = lexer::eat_ws(classes, text, p2);
-    let x = lexer::read_word(classes, text, p3);
+    let x = names::read_word(classes, text, p3);
     let p4 = x.p;
     let r = opcodes::value_rank(classes, text, x.start, x.end);
-    ranks::value_inst(classes, text, words, p4, r, d.v)
+    opcodes::value_inst(classes, text, words, p4, r, d.v)
 }
 
 // A label, an instruction without a destination, or a terminator. At a refusal it is none of the first two, so that a body ends there.
@@ -38,20 +37,20 @@ fn word_statement(classes: &[u8; 256], text: &[u8], words: &mut [u64], p: Parsed
     ensures { λ r. ⌜ Leads wordStatement 0 [] (richly (now (text .entry)) (stated (r .kind) (r .label) (now (text .entry)) p)) (now (text .entry)) p p (now (words .entry)) (r .p) (now (words .exit)) ⌝ }
 {
     let at = lexer::place(p);
-    let x = lexer::read_word(classes, text, p);
+    let x = names::read_word(classes, text, p);
     let p1 = x.p;
     if x.empty {
-        let p2 = lexer::refuse(p1, 8);
+        let p2 = lexer::refuse(p1, records::Q_STATEMENT);
         return Stated {
             p: p2,
             kind: 2,
             label: 0,
         };
     }
-    if lexer::looks(text, p1, 58) {
+    if lexer::looks(text, p1, b':') {
         let p2 = lexer::pass(text, p1, 1);
         let n = lexer::minus(x.end, x.start);
-        let label = lexer::names::pack_word(at, n);
+        let label = names::pack_word(at, n);
         return Stated {
             p: p2,
             kind: 0,
@@ -60,14 +59,14 @@ fn word_statement(classes: &[u8; 256], text: &[u8], words: &mut [u64], p: Parsed
     }
     let r = opcodes::statement_rank(classes, text, x.start, x.end);
     if r < 4 {
-        let p2 = ranks::terminator(classes, text, words, p1, r);
+        let p2 = opcodes::terminator(classes, text, words, p1, r);
         return Stated {
             p: p2,
             kind: 2,
             label: 0,
         };
     }
-    let p2 = ranks::plain_inst(classes, text, words, p1, r);
+    let p2 = opcodes::plain_inst(classes, text, words, p1, r);
     Stated {
         p: p2,
         kind: 1,
@@ -80,7 +79,7 @@ pub fn parse_statement(classes: &[u8; 256], text: &[u8], words: &mut [u64], p: P
     requires { ⌜ Classes (now classes) ⌝ }
     ensures { λ r. ⌜ Leads parseStatement 0 [] (richly (now (text .entry)) (stated (r .kind) (r .label) (now (text .entry)) p)) (now (text .entry)) p p (now (words .entry)) (r .p) (now (words .exit)) ⌝ }
 {
-    if lexer::looks(text, p, 37) {
+    if lexer::looks(text, p, b'%') {
         let p1 = lexer::pass(text, p, 1);
         let p2 = parse_inst(classes, text, words, p1);
         return Stated {

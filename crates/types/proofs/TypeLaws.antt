@@ -1,30 +1,35 @@
--- The laws of the types' programs.
+-- The laws of the types' programs: at a parenthesis behind a type whatever may come next refuses, and no two words stand at one place.
 -- Assumes nothing.
 use mathlib.Core.Path.{_≡_, refl, sym, ap, _∙_, subst}
-use mathlib.Core.List.{List, [], _∷_, _++_, append-assoc, append-nil}
-use mathlib.Core.Bool.{Bool, true, false, _&&_, _||_}
-use mathlib.Core.Option.{none as nothing, some}
-use Prim.Native.Nat.{ℕ, zero, suc, _+_, _-_, _*_, _≤_, _<_}
+use mathlib.Core.List.{List, [], _∷_, _++_}
+use mathlib.Core.Bool.{Bool, true, false, _&&_}
+use mathlib.Core.Option.{some}
+use Prim.Native.Nat.{ℕ, zero, suc, _+_, _-_, _≤_, _<_}
 use native.Mathlib.Omega.{arith}
 use native.Mathlib.Nat.{add-zero}
-use lib.ListN.{length, take, drop, set, length-append, length-drop}
-use lib.Dec.{ltb, leb, eqb}
-use borrow.Author.Tests.{ne-eqb, eq-eqb, lt-ltb, eqb-true}
+use lib.ListN.{length, drop, length-drop}
+use lib.Dec.{ltb, eqb}
+use borrow.Author.Tests.{ne-eqb, eqb-true}
 use Rattle.program.specs.Bytes.{bytes}
+use Rattle.program.specs.Choice.{pick}
 use Rattle.program.specs.Class.{classOf, isSpace, isWord}
-use Rattle.program.specs.Prog.{Prog, ret, fail, look, eat, here, lead, scan, last, Res, ok, closed, no-at, run, _>>=_, byteAt, leadWord, scanLen, next, run-bind}
+use Rattle.program.specs.Prog.{Prog, ret, eat, Res, ok, closed, no-at, run, _>>=_, byteAt, leadWord, scanLen}
+use Rattle.program.specs.Local.{next, run-bind}
 use Rattle.records.specs.Words.{header, node}
-use Rattle.grammar.specs.Lexer.{spaceStep, eatWs, refuse, place, isByte, byteIf, byteAtIf, eatN, wordIf, rankIf, rank, sameWord, expectToken, threeDots, dotsIf, skipParens}
+use Rattle.grammar.specs.Lexer.{spaceStep, eatWs, refuse, place, isByte, byteIf, byteAtIf, eatN, wordIf, rankIf, rank, sameWord, tokenIf, expectToken, threeDots, skipParens}
 use Rattle.grammar.specs.Attributes.{parenAttrs, flagAttrs, skipAttrsIn, skipAttrs}
-use Rattle.grammar.specs.Types.{Listed, listed, countOf, wordsOf, TypeOut, plain, opened, wholeOf, whole, items, structFields, typeItems, parseTypeList, ptrWords, intType, nameNode, arrayType, structType, packedType, leafTypes, optAddrspace, parseBaseType, suffixes, typeWith, noType, parseType}
-use Rattle.lexer.specs.Step.{looksP, wordP, passed, refused, replaced, replaces, backTo}
-use Rattle.lexer.specs.Reads.{Budget, Stands, At, Ends, at, out, Leads, Goal, made, reach, same, Gave, got, not, Gives, Inside}
+use Rattle.grammar.specs.Types.{Listed, listed, TypeOut, plain, opened, room, child, wholeOf, whole, behind, typeChild, commaOr, commaList, dotsList, typeItem, parseTypeList, ptrWords, intType, nameNode, arrayType, structType, packedType, leafTypes, optAddrspace, parseBaseType, suffixes, typeWith, noType, parseType}
+use Rattle.lexer.specs.Step.{looksP, wordP, passed, refused, countedP}
+use Rattle.writer.specs.Writes.{replaced, replaces, backTo}
+use Rattle.lexer.specs.Reads.{Budget, At, Ends, at, out, Leads, Goal, made, reach, same, Gives, Comes}
 use Rattle.lexer.specs.declared.Cursor.{Cursor}
 use Rattle.lexer.specs.declared.Parsed.{Parsed}
 use Rattle.lexer.specs.declared.Parsed.the-variants.{Ok, Refused}
-use Rattle.lexer.proofs.Words.{front}
-use Rattle.lexer.proofs.Laws.{true-false, g-done, g-word-no, word-no, after, bind-at, at-less, at-place, at-part, at-whole, run-eat, done, stay, then, val, byte-yes, byte-no, fail-is, replace-then, place-then, pass-in}
-use Rattle.types.specs.Reading.{spaced, Listing, TypeEnds, read, back, none, typed, listOf, Types, wordTypes}
+use Rattle.writer.proofs.Words.{front}
+use Rattle.lexer.proofs.Laws.{more, no-more, true-false, g-done, g-word-no, word-no, after, bind-at, at-less, at-place, at-part, at-whole, run-eat, done, stay, then, val, byte-yes, byte-no, fail-is, dots-yes, dots-no, place-then, pass-in}
+use Rattle.writer.proofs.Laws.{replace-then}
+use Rattle.lexer.proofs.Children.{assoc, nest, g-room, in-room, comma-yes, comma-no}
+use Rattle.types.specs.Reading.{spaced, TypeEnds, read, back, none, typed, listOf, Types, wordTypes}
 
 -- ---- where no `a` stands, no `addrspace` does
 no-a : (s : List ℕ) → isByte 97 (byteAt s) ≡ false → sameWord (leadWord s) (bytes "addrspace") ≡ false
@@ -92,13 +97,6 @@ plain-here {g} {c} {t} {text} {p0} {w = w} = record {
   hands = λ e q h. h;
 }
 
--- ---- turns of a loop
-pub more : {A : Type 0} (f : ℕ → Prog A) (u : ℕ) {c : ℕ} {mid : List ℕ} {E : Goal A} {text : List ℕ} {p0 p p′ : Parsed} {w w′ : List ℕ} → 0 < u → Leads (f (suc (u - 1))) c mid E text p0 p w p′ w′ → Leads (f u) c mid E text p0 p w p′ w′
-more f u {c} {mid} {E} {text} {p0} {p} {p′} {w} {w′} h r = let e : suc (u - 1) ≡ u = omega arith in subst (λ (z : ℕ). Leads (f z) c mid E text p0 p w p′ w′) e r
-
-pub no-more : {A : Type 0} (f : ℕ → Prog A) (u : ℕ) {c : ℕ} {mid : List ℕ} {E : Goal A} {text : List ℕ} {p0 p p′ : Parsed} {w w′ : List ℕ} → u ≤ 0 → Leads (f 0) c mid E text p0 p w p′ w′ → Leads (f u) c mid E text p0 p w p′ w′
-no-more f u {c} {mid} {E} {text} {p0} {p} {p′} {w} {w′} h r = let e : 0 ≡ u = omega arith in subst (λ (z : ℕ). Leads (f z) c mid E text p0 p w p′ w′) e r
-
 -- ---- at a parenthesis other tokens are refused
 not-there : (b : ℕ) (s : List ℕ) → (b ≡ 40 → ⊥) → byteAt s ≡ 40 → isByte b (byteAt s) ≡ false
 unfolding isByte
@@ -160,81 +158,95 @@ unfolding next expectToken
 stuck-token {B} b h n t i s e = run-bind (expectToken b) (h t) i s ∙ ap (next (h t) i s) (space-run (λ u. byteIf b (ret tt) (refuse 3)) i s e ∙ byte-run-no b (ret tt) (refuse 3) i s n e ∙ fail-run 3 i s)
 
 -- white space, a comma or a closing byte
-stuck-end : {B : Type 0} (end : ℕ) (x y : List ℕ → Prog B) → (end ≡ 40 → ⊥) → Stuck 3 (λ t. eatWs >>= λ _. byteIf 44 (x t) (byteIf end (y t) (refuse 3)))
-stuck-end end x y ne t i s e = space-run (λ _. byteIf 44 (x t) (byteIf end (y t) (refuse 3))) i s e ∙ byte-run-no 44 (x t) (byteIf end (y t) (refuse 3)) i s (λ z. omega arith) e ∙ byte-run-no end (y t) (refuse 3) i s ne e ∙ fail-run 3 i s
+pub stuck-comma : {B : Type 0} (end : ℕ) (x y : List ℕ → Prog B) → (end ≡ 40 → ⊥) → Stuck 3 (λ t. commaOr end (x t) (y t))
+unfolding commaOr tokenIf
+stuck-comma end x y ne t i s e = space-run (λ _. byteIf 44 (x t) (byteIf end (y t) (refuse 3))) i s e ∙ byte-run-no 44 (x t) (byteIf end (y t) (refuse 3)) i s (λ z. omega arith) e ∙ byte-run-no end (y t) (refuse 3) i s ne e ∙ fail-run 3 i s
 
-pub stuck-out : {B : Type 0} → Stuck 19 (λ t. refuse {A = B} 19)
-stuck-out t i s e = fail-run 19 i s
+-- ---- a type as a child of a list, then the rest
+pub stuck-room : {B : Type 0} (n q : ℕ) (h : List ℕ → Prog B) → Stuck q h → Stuck (behind n q) (λ t. room n t >>= h)
+unfolding behind room refuse run _>>=_
+stuck-room {B} n q h st t i s e = go (ltb n 65535)
+  where
+    go : (b : Bool) → run {A = B} (elim b [ true ↦ ret t | false ↦ refuse 19 ] >>= h) i s ≡ no-at (pick b q 19) i
+    go true = st t i s e
+    go false = refl
+
+pub type-child : {B : Type 0} {f : Prog TypeOut} {g : Prog Listed} (n q : ℕ) (h : List ℕ → Prog B) {c : ℕ} {mid : List ℕ} {E : Goal B} {text : List ℕ} {p0 p p1 q1 p′ : Parsed} {w w1 w′ : List ℕ} → Leads f 0 [] (typed g text p) text p p w p1 w1 → q1 ≡ countedP n p1 → Stuck q h → ((e i : ℕ) → q1 ≡ Refused e i → p′ ≡ Refused e i) → ((ws : List ℕ) → n < 65535 → Leads (h ws) c (mid ++ ws) E text p0 q1 w1 p′ w′) → Leads (typeChild n q f >>= h) c mid E text p0 p w p′ w′
+unfolding typeChild child
+type-child n q h {p1 = p1} r x st hd s = nest _ _ h (type-then (behind n q) _ r (stuck-room n q h st) (λ t. val _ (g-room n x) (in-room n p1 x hd (s t))))
+
+-- ---- lists behind commas
+-- behind an element
+module _ (end : ℕ) {text : List ℕ} {q q3 : Parsed} {b : Bool} (cm : (x y : Prog Listed) → Comes (commaOr end x y) (pick b x y) text q q3) {p0 : Parsed} {w : List ℕ} (j m : ℕ) (e : m ≡ j) (ws : List ℕ) where
+  pub comma-again : (F : ℕ → List ℕ → Prog Listed) (g : Prog Listed) → b ≡ true → Leads (commaOr end (F j ws) g) 0 ws (reach (F m) text p0) text p0 q w q3 w
+  comma-again F g y = comma-yes end cm _ _ y (subst (λ (i : ℕ). Leads (F i ws) 0 ws (reach (F m) text p0) text p0 q3 w q3 w) e (stay (F m)))
+
+  pub comma-stop : (f : Prog Listed) → b ≡ false → Leads (commaOr end f (ret (listed j 0 ws))) 0 ws (made (listed m 0) text p0) text p0 q w q3 w
+  comma-stop f y = comma-no end cm _ _ y (subst (λ (i : ℕ). Leads (ret (listed i 0 ws)) 0 ws (made (listed m 0) text p0) text p0 q3 w q3 w) e done)
+
+-- a turn begins with an element; the turns do not run out
+module _ (u k end n : ℕ) (elem : ℕ → Prog (List ℕ)) (ws : List ℕ) {E : Goal Listed} {text : List ℕ} {p0 q q4 : Parsed} {w w4 : List ℕ} where
+  pub comma-turn : 0 < u → Leads (elem n >>= λ x. commaOr end (commaList (u - 1) k end elem (n + k) (ws ++ x)) (ret (listed (n + k) 0 (ws ++ x)))) 0 ws E text p0 q w q4 w4 → Leads (commaList u k end elem n ws) 0 ws E text p0 q w q4 w4
+  unfolding commaList
+  comma-turn pos r = more (λ z. commaList z k end elem n ws) u pos r
+
+  pub comma-out : u ≤ 0 → q4 ≡ refused 19 q → Leads (commaList u k end elem n ws) 0 ws E text p0 q w q4 w4
+  unfolding commaList
+  comma-out l x = no-more (λ z. commaList z k end elem n ws) u l (fail-is _ x)
+
+module _ (u k d bad n : ℕ) (elem : ℕ → Prog (List ℕ)) (ws : List ℕ) {c : ℕ} {text : List ℕ} {p0 q : Parsed} {w : List ℕ} where
+  module _ {q1 : Parsed} (pos : 0 < u) (gw : Gives eatWs tt text q q1) {z : Bool} (l : z ≡ looksP text q1 46) where
+    pub dots-here : {q2 q3 : Parsed} → z ≡ true → Gives (threeDots bad) tt text q1 q2 → Gives (expectToken 41) tt text q2 q3 → Leads (dotsList u k d bad elem n ws) c ws (made (listed n d) text p0) text p0 q w q3 w
+    unfolding dotsList
+    dots-here y t x = more (λ z. dotsList z k d bad elem n ws) u pos (val _ gw (dots-yes bad _ l y t (val _ x done)))
+
+    pub dots-turn : {E : Goal Listed} {q4 : Parsed} {w4 : List ℕ} → z ≡ false → Leads (elem n >>= λ x. commaOr 41 (dotsList (u - 1) k d bad elem (n + k) (ws ++ x)) (ret (listed (n + k) 0 (ws ++ x)))) c ws E text p0 q1 w q4 w4 → Leads (dotsList u k d bad elem n ws) c ws E text p0 q w q4 w4
+    unfolding dotsList
+    dots-turn y r = more (λ z. dotsList z k d bad elem n ws) u pos (val _ gw (dots-no bad _ l y r))
+
+  pub dots-out : {E : Goal Listed} {q4 : Parsed} {w4 : List ℕ} → u ≤ 0 → q4 ≡ refused 19 q → Leads (dotsList u k d bad elem n ws) c ws E text p0 q w q4 w4
+  unfolding dotsList
+  dots-out l x = no-more (λ z. dotsList z k d bad elem n ws) u l (fail-is _ x)
 
 -- ---- fields of a struct
-module _ {f : Prog TypeOut} {g : Prog Listed} {text : List ℕ} {p0 q q1 q2 : Parsed} {v v1 : List ℕ} (u end n : ℕ) (ne : end ≡ 40 → ⊥) (r : Leads f 0 [] (typed g text q) text q q v q1 v1) (ws : List ℕ) where
-  module _ (pos : 0 < u) (gw : Gives eatWs tt text q1 q2) where
-    turn : {E : Goal Listed} {q3 : Parsed} {v3 : List ℕ} → ((t : List ℕ) → Leads (byteIf 44 (items (u - 1) end f (n + 1) (ws ++ t)) (byteIf end (ret (listed (n + 1) 0 (ws ++ t))) (refuse 3))) 0 (ws ++ t) E text p0 q2 v1 q3 v3) → Leads (items u end f n ws) 0 ws E text p0 q v q3 v3
-    unfolding items
-    turn {E} {q3} {v3} k = more (λ z. items z end f n ws) u pos (type-then 3 _ r (stuck-end end (λ t. items (u - 1) end f (n + 1) (ws ++ t)) (λ t. ret (listed (n + 1) 0 (ws ++ t))) ne) (λ t. val _ gw (k t)))
+abbrev pub fieldsOf : ℕ → ℕ → Prog TypeOut → ℕ → List ℕ → Prog Listed
+fieldsOf u end f n ws = commaList u 1 end (λ n. typeChild n 3 f) n ws
 
-    pub items-more : {z : Bool} {q3 : Parsed} (m : ℕ) → m ≡ n + 1 → z ≡ looksP text q2 44 → z ≡ true → q3 ≡ passed text 1 q2 → Leads (items u end f n ws) 0 ws (reach (items (u - 1) end f m) text p0) text p0 q v q3 v1
-    items-more {z} {q3} m e l y x = turn (λ t. byte-yes _ _ l y x (subst (λ (j : ℕ). Leads (items (u - 1) end f j (ws ++ t)) 3 (ws ++ t) (reach (items (u - 1) end f m) text p0) text p0 q3 v1 q3 v1) e (stay (items (u - 1) end f m))))
+module _ (f : Prog TypeOut) {g : Prog Listed} {text : List ℕ} {p0 q q1 q2 q3 : Parsed} {v v1 : List ℕ} (u end n m : ℕ) (ne : end ≡ 40 → ⊥) (pos : 0 < u) (r : Leads f 0 [] (typed g text q) text q q v q1 v1) (x : q2 ≡ countedP n q1) (e : n < 65535 → m ≡ n + 1) (ws : List ℕ) where
+  turn : {E : Goal Listed} → ((i j : ℕ) → q2 ≡ Refused i j → q3 ≡ Refused i j) → ((t : List ℕ) → n < 65535 → Leads (commaOr end (fieldsOf (u - 1) end f (n + 1) (ws ++ t)) (ret (listed (n + 1) 0 (ws ++ t)))) 0 (ws ++ t) E text p0 q2 v1 q3 v1) → Leads (fieldsOf u end f n ws) 0 ws E text p0 q v q3 v1
+  turn hd k = comma-turn u 1 end n (λ n. typeChild n 3 f) ws pos (type-child n 3 _ r x (stuck-comma end _ _ ne) hd k)
 
-    pub items-end : {z z2 : Bool} {q3 : Parsed} (m : ℕ) → m ≡ n + 1 → z ≡ looksP text q2 44 → z ≡ false → z2 ≡ looksP text q2 end → z2 ≡ true → q3 ≡ passed text 1 q2 → Leads (items u end f n ws) 0 ws (made (listed m 0) text p0) text p0 q v q3 v1
-    items-end {z} {z2} {q3} m e l y l2 y2 x = turn (λ t. byte-no _ _ l y (byte-yes _ _ l2 y2 x (subst (λ (j : ℕ). Leads (ret (listed j 0 (ws ++ t))) 3 (ws ++ t) (made (listed m 0) text p0) text p0 q3 v1 q3 v1) e done)))
+  pub items-more : {b : Bool} → ((x y : Prog Listed) → Comes (commaOr end x y) (pick b x y) text q2 q3) → b ≡ true → Leads (fieldsOf u end f n ws) 0 ws (reach (fieldsOf (u - 1) end f m) text p0) text p0 q v q3 v1
+  items-more cm y = turn (cm (refuse 3) (refuse 3) .hands) (λ t lt. comma-again end cm _ m (e lt) (ws ++ t) (fieldsOf (u - 1) end f) _ y)
 
-    pub items-bad : {E : Goal Listed} {z z2 : Bool} {q3 : Parsed} → z ≡ looksP text q2 44 → z ≡ false → z2 ≡ looksP text q2 end → z2 ≡ false → q3 ≡ refused 3 q2 → Leads (items u end f n ws) 0 ws E text p0 q v q3 v1
-    items-bad l y l2 y2 x = turn (λ t. byte-no _ _ l y (byte-no _ _ l2 y2 (fail-is _ x)))
+  pub items-end : {b : Bool} → ((x y : Prog Listed) → Comes (commaOr end x y) (pick b x y) text q2 q3) → b ≡ false → Leads (fieldsOf u end f n ws) 0 ws (made (listed m 0) text p0) text p0 q v q3 v1
+  items-end cm y = turn (cm (refuse 3) (refuse 3) .hands) (λ t lt. comma-stop end cm _ m (e lt) (ws ++ t) _ y)
 
-  pub items-out : {E : Goal Listed} → u ≤ 0 → q2 ≡ refused 19 q1 → Leads (items u end f n ws) 0 ws E text p0 q v q2 v1
-  unfolding items
-  items-out l x = no-more (λ z. items z end f n ws) u l (type-then 19 _ r stuck-out (λ t. fail-is _ x))
+-- ---- types in parentheses, with attributes
+stuck-item : {B : Type 0} (h : List ℕ → Prog B) → Stuck 3 h → Stuck 3 (λ t. (skipAttrs >>= λ _. ret t) >>= h)
+unfolding _>>=_
+stuck-item h st t i s e = assoc skipAttrs (λ _. ret t) h i s ∙ attrs-run (λ _. h t) i s e ∙ st t i s e
 
--- ---- a byte that stays
-at-run : {A : Type 0} (b : ℕ) (f g : Prog A) (text : List ℕ) (i : ℕ) (z : Bool) → isByte b (byteAt (drop i text)) ≡ z → run (byteAtIf b f g) i (drop i text) ≡ run (elim z [ true ↦ f | false ↦ g ]) i (drop i text)
-unfolding run byteAtIf
-at-run b f g text i z e = ap (λ (y : Bool). run (elim y [ true ↦ f | false ↦ g ]) i (drop i text)) e
+pub ret-then : {A B : Type 0} {a : A} (h : A → Prog B) {c : ℕ} {mid : List ℕ} {E : Goal B} {text : List ℕ} {p0 p p′ : Parsed} {w w′ : List ℕ} → Leads (h a) c mid E text p0 p w p′ w′ → Leads (ret a >>= h) c mid E text p0 p w p′ w′
+unfolding _>>=_
+ret-then h r = r
 
-module _ {A : Type 0} {mid : List ℕ} {E : Goal A} {text : List ℕ} {p0 p p′ : Parsed} {w w′ : List ℕ} {c : ℕ} where
-  pub byte-at-yes : {f : Prog A} (b : ℕ) (g : Prog A) {r : Bool} → r ≡ looksP text p b → r ≡ true → Leads f c mid E text p0 p w p′ w′ → Leads (byteAtIf b f g) c mid E text p0 p w p′ w′
-  byte-at-yes {f} b g {r} l y s = record {
-    runs = λ d low k cur e a. subst (λ (z : Res A). E .ends d k low z p′ w′) (sym (at-run b f g text (cur .at) true (ap (λ (z : Parsed). looksP text z b) (sym e) ∙ sym l ∙ y))) (s .runs d low k cur e a);
-    hands = s .hands;
-  }
+pub item-then : {B : Type 0} {f : Prog TypeOut} {g : Prog Listed} (n : ℕ) (h : List ℕ → Prog B) {c : ℕ} {mid : List ℕ} {E : Goal B} {text : List ℕ} {p0 p p1 q1 q2 p′ : Parsed} {w w1 w′ : List ℕ} → Leads f 0 [] (typed g text p) text p p w p1 w1 → q1 ≡ countedP n p1 → Gives skipAttrs tt text q1 q2 → Stuck 3 h → ((e i : ℕ) → q2 ≡ Refused e i → p′ ≡ Refused e i) → ((ws : List ℕ) → n < 65535 → Leads (h ws) c (mid ++ ws) E text p0 q2 w1 p′ w′) → Leads (typeItem f n >>= h) c mid E text p0 p w p′ w′
+unfolding typeItem
+item-then {f = f} n h r x ga st hd s = nest (typeChild n 3 f) (λ t. skipAttrs >>= λ _. ret t) h (type-child n 3 _ r x (stuck-item h st) (λ i j z. hd i j (ga .hands i j z)) (λ t lt. nest skipAttrs (λ _. ret t) h (val _ ga (ret-then h (s t lt)))))
 
-  pub byte-at-no : {g : Prog A} (b : ℕ) (f : Prog A) {r : Bool} → r ≡ looksP text p b → r ≡ false → Leads g c mid E text p0 p w p′ w′ → Leads (byteAtIf b f g) c mid E text p0 p w p′ w′
-  byte-at-no {g} b f {r} l y s = record {
-    runs = λ d low k cur e a. subst (λ (z : Res A). E .ends d k low z p′ w′) (sym (at-run b f g text (cur .at) false (ap (λ (z : Parsed). looksP text z b) (sym e) ∙ sym l ∙ y))) (s .runs d low k cur e a);
-    hands = s .hands;
-  }
+abbrev pub typesOf : ℕ → ℕ → Prog TypeOut → ℕ → List ℕ → Prog Listed
+typesOf u bad f n ws = dotsList u 1 1 bad (typeItem f) n ws
 
--- ---- a list of types in parentheses: white space and no dots, or dots
-module _ (f : Prog TypeOut) {text : List ℕ} {p0 q q1 : Parsed} {v : List ℕ} (u bad n : ℕ) (gw : Gives eatWs tt text q q1) (ws : List ℕ) where
-  pub list-dots : {z : Bool} {q2 q3 : Parsed} → z ≡ looksP text q1 46 → z ≡ true → Gives (threeDots bad) tt text q1 q2 → Gives (expectToken 41) tt text q2 q3 → Leads (typeItems u bad f n ws) 0 ws (made (listed n 1) text p0) text p0 q v q3 v
-  unfolding typeItems dotsIf
-  list-dots {z} {q2} {q3} l y d x = go u
-    where
-      go : (u : ℕ) → Leads (typeItems u bad f n ws) 0 ws (made (listed n 1) text p0) text p0 q v q3 v
-      go zero = val _ gw (byte-at-yes _ _ l y (val _ d (val _ x done)))
-      go (suc u) = val _ gw (byte-at-yes _ _ l y (val _ d (val _ x done)))
+module _ (f : Prog TypeOut) {g : Prog Listed} {text : List ℕ} {p0 q q1 q2 q3 q4 q5 : Parsed} {v v1 : List ℕ} (u bad n m : ℕ) (pos : 0 < u) (gw : Gives eatWs tt text q q1) {z : Bool} (l : z ≡ looksP text q1 46) (y : z ≡ false) (r : Leads f 0 [] (typed g text q1) text q1 q1 v q2 v1) (x : q3 ≡ countedP n q2) (ga : Gives skipAttrs tt text q3 q4) (e : n < 65535 → m ≡ n + 1) (ws : List ℕ) where
+  list-turn : {E : Goal Listed} → ((i j : ℕ) → q4 ≡ Refused i j → q5 ≡ Refused i j) → ((t : List ℕ) → n < 65535 → Leads (commaOr 41 (typesOf (u - 1) bad f (n + 1) (ws ++ t)) (ret (listed (n + 1) 0 (ws ++ t)))) 0 (ws ++ t) E text p0 q4 v1 q5 v1) → Leads (typesOf u bad f n ws) 0 ws E text p0 q v q5 v1
+  list-turn hd k = dots-turn u 1 1 bad n (typeItem f) ws pos gw l y (item-then n _ r x ga (stuck-comma 41 _ _ (λ z. omega arith)) hd k)
 
-  module _ {g : Prog Listed} {q2 : Parsed} {v1 : List ℕ} {z : Bool} (l : z ≡ looksP text q1 46) (y : z ≡ false) (r : Leads f 0 [] (typed g text q1) text q1 q1 v q2 v1) where
-    pub list-out : {E : Goal Listed} {q3 : Parsed} → u ≤ 0 → q3 ≡ refused 19 q2 → Leads (typeItems u bad f n ws) 0 ws E text p0 q v q3 v1
-    unfolding typeItems dotsIf
-    list-out h x = no-more (λ z. typeItems z bad f n ws) u h (val _ gw (byte-at-no _ _ l y (type-then 19 _ r stuck-out (λ t. fail-is _ x))))
+  pub list-more : {b : Bool} → ((x y : Prog Listed) → Comes (commaOr 41 x y) (pick b x y) text q4 q5) → b ≡ true → Leads (typesOf u bad f n ws) 0 ws (reach (typesOf (u - 1) bad f m) text p0) text p0 q v q5 v1
+  list-more cm o = list-turn (cm (refuse 3) (refuse 3) .hands) (λ t lt. comma-again 41 cm _ m (e lt) (ws ++ t) (typesOf (u - 1) bad f) _ o)
 
-    module _ {q3 q4 : Parsed} (pos : 0 < u) (ga : Gives skipAttrs tt text q2 q3) (gv : Gives eatWs tt text q3 q4) where
-      list-turn : {E : Goal Listed} {q5 : Parsed} {v5 : List ℕ} → ((t : List ℕ) → Leads (byteIf 44 (typeItems (u - 1) bad f (n + 1) (ws ++ t)) (byteIf 41 (ret (listed (n + 1) 0 (ws ++ t))) (refuse 3))) 0 (ws ++ t) E text p0 q4 v1 q5 v5) → Leads (typeItems u bad f n ws) 0 ws E text p0 q v q5 v5
-      unfolding typeItems dotsIf
-      list-turn k = more (λ z. typeItems z bad f n ws) u pos (val _ gw (byte-at-no _ _ l y (type-then 3 _ r stuck (λ t. val _ ga (val _ gv (k t))))))
-        where
-          stuck : Stuck 3 (λ t. skipAttrs >>= λ _. eatWs >>= λ _. byteIf 44 (typeItems (u - 1) bad f (n + 1) (ws ++ t)) (byteIf 41 (ret (listed (n + 1) 0 (ws ++ t))) (refuse 3)))
-          stuck t i s e = attrs-run _ i s e ∙ stuck-end 41 (λ t. typeItems (u - 1) bad f (n + 1) (ws ++ t)) (λ t. ret (listed (n + 1) 0 (ws ++ t))) (λ z. omega arith) t i s e
-
-      pub list-more : {z2 : Bool} {q5 : Parsed} (m : ℕ) → m ≡ n + 1 → z2 ≡ looksP text q4 44 → z2 ≡ true → q5 ≡ passed text 1 q4 → Leads (typeItems u bad f n ws) 0 ws (reach (typeItems (u - 1) bad f m) text p0) text p0 q v q5 v1
-      list-more {z2} {q5} m e l y x = list-turn (λ t. byte-yes _ _ l y x (subst (λ (j : ℕ). Leads (typeItems (u - 1) bad f j (ws ++ t)) 3 (ws ++ t) (reach (typeItems (u - 1) bad f m) text p0) text p0 q5 v1 q5 v1) e (stay (typeItems (u - 1) bad f m))))
-
-      pub list-end : {z2 z3 : Bool} {q5 : Parsed} (m : ℕ) → m ≡ n + 1 → z2 ≡ looksP text q4 44 → z2 ≡ false → z3 ≡ looksP text q4 41 → z3 ≡ true → q5 ≡ passed text 1 q4 → Leads (typeItems u bad f n ws) 0 ws (made (listed m 0) text p0) text p0 q v q5 v1
-      list-end {z2} {z3} {q5} m e l y l2 y2 x = list-turn (λ t. byte-no _ _ l y (byte-yes _ _ l2 y2 x (subst (λ (j : ℕ). Leads (ret (listed j 0 (ws ++ t))) 3 (ws ++ t) (made (listed m 0) text p0) text p0 q5 v1 q5 v1) e done)))
-
-      pub list-bad : {E : Goal Listed} {z2 z3 : Bool} {q5 : Parsed} → z2 ≡ looksP text q4 44 → z2 ≡ false → z3 ≡ looksP text q4 41 → z3 ≡ false → q5 ≡ refused 3 q4 → Leads (typeItems u bad f n ws) 0 ws E text p0 q v q5 v1
-      list-bad l y l2 y2 x = list-turn (λ t. byte-no _ _ l y (byte-no _ _ l2 y2 (fail-is _ x)))
+  pub list-end : {b : Bool} → ((x y : Prog Listed) → Comes (commaOr 41 x y) (pick b x y) text q4 q5) → b ≡ false → Leads (typesOf u bad f n ws) 0 ws (made (listed m 0) text p0) text p0 q v q5 v1
+  list-end cm o = list-turn (cm (refuse 3) (refuse 3) .hands) (λ t lt. comma-stop 41 cm _ m (e lt) (ws ++ t) _ o)
 
 -- ---- what stands behind a type
 is-forty : (s : List ℕ) → isByte 40 (byteAt s) ≡ true → byteAt s ≡ 40
@@ -299,19 +311,19 @@ some-forty [] e = absurd (omega arith)
 some-forty (x ∷ s) e = omega arith
 
 module _ (f : Prog TypeOut) (bad : ℕ) {text : List ℕ} {p0 q q1 : Parsed} {v : List ℕ} (u : ℕ) (pos : 0 < u) (gw : Gives eatWs tt text q q1) (t : List ℕ) where
-  behind : {E : Goal TypeOut} {q3 : Parsed} {v3 : List ℕ} → ((j : ℕ) → Leads (byteIf 40 (parseTypeList bad f >>= λ l. eatWs >>= λ _. byteIf 42 (suffixes (u - 1) bad f ptrWords) (ret (opened t l j))) (optAddrspace >>= λ _. byteIf 42 (suffixes (u - 1) bad f ptrWords) (ret (plain t)))) 0 t E text p0 q1 v q3 v3) → Leads (suffixes u bad f t) 0 t E text p0 q v q3 v3
+  from-here : {E : Goal TypeOut} {q3 : Parsed} {v3 : List ℕ} → ((j : ℕ) → Leads (byteIf 40 (parseTypeList bad f >>= λ l. eatWs >>= λ _. byteIf 42 (suffixes (u - 1) bad f ptrWords) (ret (opened t l j))) (optAddrspace >>= λ _. byteIf 42 (suffixes (u - 1) bad f ptrWords) (ret (plain t)))) 0 t E text p0 q1 v q3 v3) → Leads (suffixes u bad f t) 0 t E text p0 q v q3 v3
   unfolding suffixes
-  behind k = more (λ z. suffixes z bad f t) u pos (val _ gw (place-then _ k))
+  from-here k = more (λ z. suffixes z bad f t) u pos (val _ gw (place-then _ k))
 
   pub suffix-star : {q2 q3 q4 : Parsed} {v4 : List ℕ} {z z2 : Bool} → z ≡ looksP text q1 40 → z ≡ false → Gives optAddrspace tt text q1 q2 → z2 ≡ looksP text q2 42 → z2 ≡ true → q3 ≡ passed text 1 q2 → (q4 ≡ replaced p0 q3) × (v4 ≡ replaces 360287970189639681 p0 q3 v) → Leads (suffixes u bad f t) 0 t (reach (suffixes (u - 1) bad f) text p0) text p0 q v q4 v4
-  suffix-star l y a l2 y2 x o = behind (λ j. byte-no _ _ l y (val _ a (byte-yes _ _ l2 y2 x (replace-then _ o (stay (suffixes (u - 1) bad f))))))
+  suffix-star l y a l2 y2 x o = from-here (λ j. byte-no _ _ l y (val _ a (byte-yes _ _ l2 y2 x (replace-then _ o (stay (suffixes (u - 1) bad f))))))
 
   pub suffix-none : {g : Prog Listed} {q2 : Parsed} {z z2 : Bool} → z ≡ looksP text q1 40 → z ≡ false → Gives optAddrspace tt text q1 q2 → z2 ≡ looksP text q2 42 → z2 ≡ false → Leads (suffixes u bad f t) 0 t (typed g text p0) text p0 q v q2 v
-  suffix-none l y a l2 y2 = behind (λ j. byte-no _ _ l y (val _ a (byte-no _ _ l2 y2 plain-here)))
+  suffix-none l y a l2 y2 = from-here (λ j. byte-no _ _ l y (val _ a (byte-no _ _ l2 y2 plain-here)))
 
   module _ {r1 r2 r3 : Parsed} {v2 : List ℕ} {z : Bool} (n d : ℕ) (l : z ≡ looksP text q1 40) (y : z ≡ true) (x : r1 ≡ passed text 1 q1) (i : Leads (parseTypeList bad f) 0 [] (made (listed n d) text r1) text r1 r1 v r2 v2) (gv : Gives eatWs tt text r2 r3) where
     pub suffix-fun : {r4 q4 : Parsed} {v4 : List ℕ} {z2 : Bool} → z2 ≡ looksP text r3 42 → z2 ≡ true → r4 ≡ passed text 1 r3 → (q4 ≡ replaced p0 r4) × (v4 ≡ replaces 360287970189639681 p0 r4 v2) → Leads (suffixes u bad f t) 0 t (reach (suffixes (u - 1) bad f) text p0) text p0 q v q4 v4
-    suffix-fun l2 y2 x2 o = behind (λ j. byte-yes _ _ l y x (then _ i (λ ws. val _ gv (byte-yes _ _ l2 y2 x2 (replace-then _ o (stay (suffixes (u - 1) bad f)))))))
+    suffix-fun l2 y2 x2 o = from-here (λ j. byte-yes _ _ l y x (then _ i (λ ws. val _ gv (byte-yes _ _ l2 y2 x2 (replace-then _ o (stay (suffixes (u - 1) bad f)))))))
 
     pub suffix-back : {r4 : Parsed} {z2 : Bool} → z2 ≡ looksP text r3 42 → z2 ≡ false → r4 ≡ backTo q1 r3 → Leads (suffixes u bad f t) 0 t (typed (parseTypeList bad f) text p0) text p0 q v r4 v2
     unfolding suffixes place run _>>=_ byteIf

@@ -1,13 +1,13 @@
 -- What the code of the types holds of their programs.
 -- Assumes nothing.
 use mathlib.Core.Path.{_≡_}
-use mathlib.Core.List.{List, [], _∷_, _++_}
+use mathlib.Core.List.{List, []}
 use Prim.Native.Nat.{ℕ, zero, suc, _+_}
-use lib.ListN.{length, drop}
-use Rattle.program.specs.Prog.{Prog, ret, Res, ok, closed, no-at, run, byteAt, _>>=_}
+use lib.ListN.{drop}
+use Rattle.program.specs.Prog.{Prog, ret, Res, ok, no-at, run, byteAt, _>>=_}
 use Rattle.program.specs.Bytes.{bytes}
 use Rattle.records.specs.Words.{node}
-use Rattle.grammar.specs.Kinds.{kVoid, kFloat, kDouble, kLabel, kMetadata}
+use Rattle.records.specs.Kinds.{kVoid, kFloat, kDouble, kLabel, kMetadata}
 use Rattle.grammar.specs.Lexer.{refuse, eatWs, wordIf}
 use Rattle.grammar.specs.Types.{Listed, TypeOut, plain, opened, ptrType, noType, parseTypeList, parseType}
 use Rattle.lexer.specs.Reads.{Budget, At, Goal, Leads}

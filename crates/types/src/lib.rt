@@ -1,8 +1,7 @@
 // The reader of types (parser.rs, "Types"). Each function writes the words of what it reads behind the cursor.
-use lexer::Num;
 use lexer::Parsed;
 ghost use mathlib.Core.Path.{_≡_};
-ghost use mathlib.Core.List.{List, [], _∷_};
+ghost use mathlib.Core.List.{List, []};
 ghost use Prim.Native.Nat.{ℕ, _+_, _<_};
 ghost use Rattle.program.specs.Prog.{ret};
 ghost use Rattle.records.specs.Words.{header, node};
@@ -16,7 +15,7 @@ ghost use Rattle.types.specs.Reading.{typed, Types, wordTypes};
 fn plain_header(kind: u8, n: u8) -> u64
     ensures { λ r. ⌜ r ≡ header kind 0 0 n ⌝ }
 {
-    (kind as u64) * 72057594037927936 + (n as u64)
+    (kind as u64) * records::KIND_UNIT + (n as u64)
 }
 
 // A node that is its header.
@@ -24,7 +23,7 @@ pub fn leaf(words: &mut [u64], p: Parsed, kind: u8) -> Parsed
     ensures { λ r. ⌜ ((text : List ℕ) → Leads (ret (node kind 0 0 [])) 1 [] (made same text p) text p p (now (words .entry)) r (now (words .exit))) ⌝ }
 {
     let h = plain_header(kind, 1);
-    lexer::push(words, p, h)
+    writer::push(words, p, h)
 }
 
 // `iN`, behind the i.
@@ -32,11 +31,11 @@ fn int_type(classes: &[u8; 256], text: &[u8], words: &mut [u64], p: Parsed) -> P
     requires { ⌜ Classes (now classes) ⌝ }
     ensures { λ r. ⌜ Leads intType 2 [] (made same (now (text .entry)) p) (now (text .entry)) p p (now (words .entry)) r (now (words .exit)) ⌝ }
 {
-    let n = lexer::parse_int(classes, text, p, 1, 8388608);
+    let n = lexer::parse_int(classes, text, p, 1, records::WIDTH_LIMIT);
     let p1 = n.p;
-    let h = plain_header(2, 2);
-    let p2 = lexer::push(words, p1, h);
-    lexer::push(words, p2, n.v)
+    let h = plain_header(records::K_INT, 2);
+    let p2 = writer::push(words, p1, h);
+    writer::push(words, p2, n.v)
 }
 
 // A node that holds a name, behind the sigil.
@@ -44,11 +43,11 @@ pub fn name_node(classes: &[u8; 256], text: &[u8], words: &mut [u64], p: Parsed,
     requires { ⌜ Classes (now classes) ⌝ }
     ensures { λ r. ⌜ Leads (nameNode kind) 2 [] (made same (now (text .entry)) p) (now (text .entry)) p p (now (words .entry)) r (now (words .exit)) ⌝ }
 {
-    let n = lexer::name_word(classes, text, p);
+    let n = names::name_word(classes, text, p);
     let p1 = n.p;
     let h = plain_header(kind, 2);
-    let p2 = lexer::push(words, p1, h);
-    lexer::push(words, p2, n.v)
+    let p2 = writer::push(words, p1, h);
+    writer::push(words, p2, n.v)
 }
 
 // `addrspace(..)`, where it stands.
@@ -57,8 +56,8 @@ fn addrspace(classes: &[u8; 256], text: &[u8], p: Parsed) -> Parsed
     ensures { λ r. ⌜ Gives optAddrspace tt (now (text .entry)) p r ⌝ }
 {
     if lexer::word(classes, text, p, b"addrspace") {
-        let q = lexer::pass(text, p, 9);
-        return lexer::skip_parens(classes, text, q);
+        let q = lexer::pass_word(text, p, b"addrspace");
+        return names::skip_parens(classes, text, q);
     }
     p
 }
@@ -68,7 +67,7 @@ fn opt_addrspace(classes: &[u8; 256], text: &[u8], p: Parsed) -> Parsed
     requires { ⌜ Classes (now classes) ⌝ }
     ensures { λ r. ⌜ Gives optAddrspace tt (now (text .entry)) p r ⌝ }
 {
-    if lexer::looks(text, p, 97) {
+    if lexer::looks(text, p, b'a') {
         let q = addrspace(classes, text, p);
         return lexer::anew(q);
     }
@@ -81,11 +80,11 @@ fn ptr_type(classes: &[u8; 256], text: &[u8], words: &mut [u64], p: Parsed) -> P
     ensures { λ r. ⌜ Leads ptrType 1 [] (made same (now (text .entry)) p) (now (text .entry)) p p (now (words .entry)) r (now (words .exit)) ⌝ }
 {
     let p1 = lexer::eat_ws(classes, text, p);
-    if lexer::looks(text, p1, 97) {
+    if lexer::looks(text, p1, b'a') {
         let p2 = addrspace(classes, text, p1);
-        return leaf(words, p2, 5);
+        return leaf(words, p2, records::K_PTR);
     }
-    leaf(words, p1, 5)
+    leaf(words, p1, records::K_PTR)
 }
 
 // The types that are a word, or 5. No two words stand at one place, so they are tried by how often they come.
@@ -94,30 +93,30 @@ fn keyword_type(classes: &[u8; 256], text: &[u8], words: &mut [u64], p: Parsed) 
     ensures { λ r. ⌜ Reads (wordTypes (refuse 5)) (now (text .entry)) p (now (words .entry)) r (now (words .exit)) ⌝ }
 {
     if lexer::word(classes, text, p, b"ptr") {
-        let q = lexer::pass(text, p, 3);
+        let q = lexer::pass_word(text, p, b"ptr");
         return ptr_type(classes, text, words, q);
     }
     if lexer::word(classes, text, p, b"void") {
-        let q = lexer::pass(text, p, 4);
-        return leaf(words, q, 1);
+        let q = lexer::pass_word(text, p, b"void");
+        return leaf(words, q, records::K_VOID);
     }
     if lexer::word(classes, text, p, b"double") {
-        let q = lexer::pass(text, p, 6);
-        return leaf(words, q, 4);
+        let q = lexer::pass_word(text, p, b"double");
+        return leaf(words, q, records::K_DOUBLE);
     }
     if lexer::word(classes, text, p, b"float") {
-        let q = lexer::pass(text, p, 5);
-        return leaf(words, q, 3);
+        let q = lexer::pass_word(text, p, b"float");
+        return leaf(words, q, records::K_FLOAT);
     }
     if lexer::word(classes, text, p, b"label") {
-        let q = lexer::pass(text, p, 5);
-        return leaf(words, q, 9);
+        let q = lexer::pass_word(text, p, b"label");
+        return leaf(words, q, records::K_LABEL);
     }
     if lexer::word(classes, text, p, b"metadata") {
-        let q = lexer::pass(text, p, 8);
-        return leaf(words, q, 10);
+        let q = lexer::pass_word(text, p, b"metadata");
+        return leaf(words, q, records::K_METADATA);
     }
-    lexer::refuse(p, 5)
+    lexer::refuse(p, records::Q_TYPE)
 }
 
 // A list's answer: how many, and 1 where `...` ends it.
@@ -131,7 +130,7 @@ pub struct Listed {
 pub fn one_more(n: u16) -> u16
     ensures { λ r. ⌜ (n < 65535 → r ≡ n + 1) ⌝ }
 {
-    if n < 65535 {
+    if n < records::CHILD_LIMIT {
         return n + 1;
     }
     n
@@ -159,7 +158,7 @@ fn parse_struct_fields(
     ensures { λ r. ⌜ Leads (structFields (parseType depth)) 0 [] (made (listed (r .n) 0) (now (text .entry)) p) (now (text .entry)) p p (now (words .entry)) (r .p) (now (words .exit)) ⌝ }
 {
     let mut q = lexer::eat_ws(classes, text, p);
-    if lexer::looks(text, q, 125) {
+    if lexer::looks(text, q, b'}') {
         let q1 = lexer::pass(text, q, 1);
         return Listed {
             p: q1,
@@ -167,43 +166,25 @@ fn parse_struct_fields(
             dots: 0,
         };
     }
-    let mut left: u16 = 65535;
+    let mut left: usize = records::LIST_TURNS;
     let mut n: u16 = 0;
     while 0 < left {
         let q1 = parse_type(classes, text, words, q, depth);
-        let q2 = lexer::eat_ws(classes, text, q1);
-        if lexer::looks(text, q2, 44) {
-            q = lexer::pass(text, q2, 1);
+        let q2 = lexer::count_child(q1, n);
+        let e = lexer::comma_or(classes, text, q2, b'}');
+        n = one_more(n);
+        q = e.p;
+        if e.more {
             left -= 1;
-            n = one_more(n);
         } else {
-            if lexer::looks(text, q2, 125) {
-                let q3 = lexer::pass(text, q2, 1);
-                let m = one_more(n);
-                return Listed {
-                    p: q3,
-                    n: m,
-                    dots: 0,
-                };
-            }
-            let q3 = lexer::refuse(q2, 3);
-            return Listed {
-                p: q3,
-                n: 0,
-                dots: 0,
-            };
+            return Listed { p: q, n, dots: 0 };
         }
     }
-    let q1 = parse_type(classes, text, words, q, depth);
-    let q2 = lexer::refuse(q1, 19);
-    Listed {
-        p: q2,
-        n: 0,
-        dots: 0,
-    }
+    let q1 = lexer::refuse(q, records::Q_CHILDREN);
+    Listed { p: q1, n, dots: 0 }
 }
 
-// Types with attributes, `...` in the last place, through the parenthesis (`parse_type_list`).
+// Types with attributes, `...` in the last place, through the parenthesis (`parse_type_list`). The return type counts with them.
 pub fn parse_type_list(
     classes: &[u8; 256],
     text: &[u8],
@@ -215,62 +196,38 @@ pub fn parse_type_list(
     ensures { λ r. ⌜ Leads (parseTypeList (noType depth) (parseType depth)) 0 [] (made (listed (r .n) (r .dots)) (now (text .entry)) p) (now (text .entry)) p p (now (words .entry)) (r .p) (now (words .exit)) ⌝ }
 {
     let mut q = lexer::eat_ws(classes, text, p);
-    if lexer::looks(text, q, 41) {
+    if lexer::looks(text, q, b')') {
         let q1 = lexer::pass(text, q, 1);
         return Listed {
             p: q1,
-            n: 0,
+            n: 1,
             dots: 0,
         };
     }
     let bad = no_type(depth);
-    let mut left: u16 = 65534;
-    let mut n: u16 = 0;
+    let mut left: usize = records::LIST_TURNS;
+    let mut n: u16 = 1;
     while 0 < left {
         let q1 = lexer::eat_ws(classes, text, q);
-        if lexer::looks(text, q1, 46) {
-            let q2 = lexer::three_dots(text, q1, bad);
-            let q3 = lexer::expect_token(classes, text, q2, 41);
+        if lexer::looks(text, q1, b'.') {
+            let q2 = names::three_dots(text, q1, bad);
+            let q3 = lexer::expect_token(classes, text, q2, b')');
             return Listed { p: q3, n, dots: 1 };
         }
         let q2 = parse_type(classes, text, words, q1, depth);
-        let q3 = attributes::skip_attrs(classes, text, q2);
-        let q4 = lexer::eat_ws(classes, text, q3);
-        if lexer::looks(text, q4, 44) {
-            q = lexer::pass(text, q4, 1);
+        let q3 = lexer::count_child(q2, n);
+        let q4 = attributes::skip_attrs(classes, text, q3);
+        let e = lexer::comma_or(classes, text, q4, b')');
+        n = one_more(n);
+        q = e.p;
+        if e.more {
             left -= 1;
-            n = one_more(n);
         } else {
-            if lexer::looks(text, q4, 41) {
-                let q5 = lexer::pass(text, q4, 1);
-                let m = one_more(n);
-                return Listed {
-                    p: q5,
-                    n: m,
-                    dots: 0,
-                };
-            }
-            let q5 = lexer::refuse(q4, 3);
-            return Listed {
-                p: q5,
-                n: 0,
-                dots: 0,
-            };
+            return Listed { p: q, n, dots: 0 };
         }
     }
-    let q1 = lexer::eat_ws(classes, text, q);
-    if lexer::looks(text, q1, 46) {
-        let q2 = lexer::three_dots(text, q1, bad);
-        let q3 = lexer::expect_token(classes, text, q2, 41);
-        return Listed { p: q3, n, dots: 1 };
-    }
-    let q2 = parse_type(classes, text, words, q1, depth);
-    let q3 = lexer::refuse(q2, 19);
-    Listed {
-        p: q3,
-        n: 0,
-        dots: 0,
-    }
+    let q1 = lexer::refuse(q, records::Q_CHILDREN);
+    Listed { p: q1, n, dots: 0 }
 }
 
 // `[N x T]` and `<N x T>`, behind the opening byte.
@@ -286,15 +243,15 @@ fn array_type(
     requires { ⌜ Classes (now classes) ⌝ }
     ensures { λ r. ⌜ ((end ≡ 40 → ⊥) → Leads (arrayType packed end (parseType depth)) 2 [] (made same (now (text .entry)) p) (now (text .entry)) p p (now (words .entry)) r (now (words .exit))) ⌝ }
 {
-    let p1 = lexer::push(words, p, 0);
+    let p1 = writer::push(words, p, 0);
     let p2 = lexer::eat_ws(classes, text, p1);
-    let n = lexer::parse_int(classes, text, p2, 0, 18446744073709551615);
+    let n = lexer::parse_int(classes, text, p2, 0, records::NUMBER_LIMIT);
     let p3 = n.p;
-    let p4 = lexer::push(words, p3, n.v);
+    let p4 = writer::push(words, p3, n.v);
     let p5 = lexer::expect_keyword(classes, text, p4, b"x");
     let p6 = parse_type(classes, text, words, p5, depth);
     let p7 = lexer::expect_token(classes, text, p6, end);
-    lexer::close(words, p, p7, 6, packed, 1)
+    writer::close(words, p, p7, records::K_ARRAY, packed, 1)
 }
 
 // `{..}`, behind the opening brace.
@@ -308,10 +265,10 @@ fn struct_type(
     requires { ⌜ Classes (now classes) ⌝ }
     ensures { λ r. ⌜ Leads (structType (parseType depth)) 1 [] (made same (now (text .entry)) p) (now (text .entry)) p p (now (words .entry)) r (now (words .exit)) ⌝ }
 {
-    let p1 = lexer::push(words, p, 0);
+    let p1 = writer::push(words, p, 0);
     let l = parse_struct_fields(classes, text, words, p1, depth);
     let p2 = l.p;
-    lexer::close(words, p, p2, 8, 0, l.n)
+    writer::close(words, p, p2, records::K_STRUCT, 0, l.n)
 }
 
 // `<{..}>` and `<N x T>`, behind the `<`.
@@ -325,15 +282,15 @@ fn packed_type(
     requires { ⌜ Classes (now classes) ⌝ }
     ensures { λ r. ⌜ Leads (packedType (parseType depth)) 2 [] (made same (now (text .entry)) p) (now (text .entry)) p p (now (words .entry)) r (now (words .exit)) ⌝ }
 {
-    if lexer::looks(text, p, 123) {
+    if lexer::looks(text, p, b'{') {
         let p1 = lexer::pass(text, p, 1);
-        let p2 = lexer::push(words, p1, 0);
+        let p2 = writer::push(words, p1, 0);
         let l = parse_struct_fields(classes, text, words, p2, depth);
         let p3 = l.p;
-        let p4 = lexer::expect_token(classes, text, p3, 62);
-        return lexer::close(words, p, p4, 8, 1, l.n);
+        let p4 = lexer::expect_token(classes, text, p3, b'>');
+        return writer::close(words, p, p4, records::K_STRUCT, records::D_PACKED, l.n);
     }
-    array_type(classes, text, words, p, 1, 62, depth)
+    array_type(classes, text, words, p, 1, b'>', depth)
 }
 
 // A type without what may stand behind it. No keyword begins with a byte that is tried first.
@@ -347,23 +304,23 @@ fn parse_base_type(
     requires { ⌜ Classes (now classes) ⌝ }
     ensures { λ r. ⌜ Reads (parseBaseType (parseType depth)) (now (text .entry)) p (now (words .entry)) r (now (words .exit)) ⌝ }
 {
-    if lexer::looks(text, p, 105) {
+    if lexer::looks(text, p, b'i') {
         let q = lexer::pass(text, p, 1);
         return int_type(classes, text, words, q);
     }
-    if lexer::looks(text, p, 37) {
+    if lexer::looks(text, p, b'%') {
         let q = lexer::pass(text, p, 1);
-        return name_node(classes, text, words, q, 7);
+        return name_node(classes, text, words, q, records::K_NAMED);
     }
-    if lexer::looks(text, p, 91) {
+    if lexer::looks(text, p, b'[') {
         let q = lexer::pass(text, p, 1);
-        return array_type(classes, text, words, q, 0, 93, depth);
+        return array_type(classes, text, words, q, 0, b']', depth);
     }
-    if lexer::looks(text, p, 123) {
+    if lexer::looks(text, p, b'{') {
         let q = lexer::pass(text, p, 1);
         return struct_type(classes, text, words, q, depth);
     }
-    if lexer::looks(text, p, 60) {
+    if lexer::looks(text, p, b'<') {
         let q = lexer::pass(text, p, 1);
         return packed_type(classes, text, words, q, depth);
     }
@@ -383,26 +340,26 @@ fn type_suffixes(
     ensures { λ r. ⌜ ((t : List ℕ) → Leads (suffixes 16777217 (noType depth) (parseType depth) t) 0 t (typed (parseTypeList (noType depth) (parseType depth)) (now (text .entry)) p0) (now (text .entry)) p0 p (now (words .entry)) r (now (words .exit))) ⌝ }
 {
     let mut q = p;
-    let mut left: usize = 16777217;
+    let mut left: usize = records::TURNS;
     while 0 < left {
         let q1 = lexer::eat_ws(classes, text, q);
-        if lexer::looks(text, q1, 40) {
+        if lexer::looks(text, q1, b'(') {
             let r1 = lexer::pass(text, q1, 1);
             let l = parse_type_list(classes, text, words, r1, depth);
             let r2 = l.p;
             let r3 = lexer::eat_ws(classes, text, r2);
-            if lexer::looks(text, r3, 42) {
+            if lexer::looks(text, r3, b'*') {
                 let r4 = lexer::pass(text, r3, 1);
-                q = lexer::replace(words, p0, r4, 360287970189639681);
+                q = writer::replace(words, p0, r4, records::PTR_NODE);
                 left -= 1;
             } else {
-                return lexer::back_to(q1, r3);
+                return writer::back_to(q1, r3);
             }
         } else {
             let q2 = opt_addrspace(classes, text, q1);
-            if lexer::looks(text, q2, 42) {
+            if lexer::looks(text, q2, b'*') {
                 let q3 = lexer::pass(text, q2, 1);
-                q = lexer::replace(words, p0, q3, 360287970189639681);
+                q = writer::replace(words, p0, q3, records::PTR_NODE);
                 left -= 1;
             } else {
                 return q2;
@@ -425,7 +382,7 @@ pub fn parse_type(
 {
     let q = lexer::eat_ws(classes, text, p);
     if depth == 0 {
-        return lexer::refuse(q, 16);
+        return lexer::refuse(q, records::Q_DEPTH);
     }
     let r = parse_base_type(classes, text, words, q, depth - 1);
     type_suffixes(classes, text, words, q, r, depth - 1)

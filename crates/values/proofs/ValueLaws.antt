@@ -1,26 +1,28 @@
--- The laws of the values' programs.
+-- The laws of the values' programs: at a parenthesis no value begins, and each list is its first element and then the list with a turn less.
 -- Assumes nothing.
 use mathlib.Core.Path.{_≡_, refl, sym, ap, _∙_, subst}
 use mathlib.Core.List.{List, [], _∷_, _++_}
-use mathlib.Core.Bool.{Bool, true, false, _&&_}
-use Prim.Native.Nat.{ℕ, zero, suc, _+_, _-_, _*_, _≤_, _<_}
+use mathlib.Core.Bool.{Bool, true, false}
+use Prim.Native.Nat.{ℕ, zero, suc, _+_, _-_, _≤_, _<_}
 use native.Mathlib.Omega.{arith}
 use lib.ListN.{length, drop}
-use lib.Dec.{ltb, leb, eqb}
 use Rattle.program.specs.Bytes.{bytes}
+use Rattle.program.specs.Choice.{pick}
 use Rattle.program.specs.Class.{classOf, isWord, isDigit}
-use Rattle.program.specs.Prog.{Prog, ret, fail, look, eat, here, lead, scan, Res, ok, closed, no-at, run, _>>=_, byteAt, leadWord, next, run-bind}
-use Rattle.grammar.specs.Lexer.{eatWs, refuse, place, isByte, byteIf, sameWord, startsWith, eatN, wordIf, wordAtIf, rankIf, rank, tokenIf, expectToken, skipKeyword}
-use Rattle.grammar.specs.Types.{Listed, listed, TypeOut, whole, wholeOf, nameNode, parseType}
-use Rattle.grammar.specs.Values.{convOps, binOps, prefixIf, digitIf, numericOr, cstring, leafValues, pairWith, overValue, overType, pairs, pairList, aggregate, packedConst, gepIndices, constExprs, valueWith, parseValue, parseTypedVal}
-use Rattle.lexer.specs.Step.{looksP, wordP, placeP, passed, refused}
-use Rattle.lexer.specs.Reads.{Budget, At, Ends, at, out, Leads, Goal, made, reach, same, Gives}
+use Rattle.program.specs.Prog.{Prog, ret, eat, Res, no-at, run, _>>=_, byteAt, leadWord}
+use Rattle.program.specs.Local.{next, run-bind}
+use Rattle.grammar.specs.Lexer.{eatWs, refuse, place, byteIf, sameWord, startsWith, eatN, wordAtIf, rank, skipKeyword}
+use Rattle.grammar.specs.Types.{Listed, listed, TypeOut, room, child, whole, typeChild, commaOr, commaList, parseType}
+use Rattle.grammar.specs.Values.{convOps, binOps, prefixIf, digitIf, numericOr, leafValues, pairWith, pairChild, aggregate, packedConst, gepIndices, constExprs, valueWith, parseValue, parseTypedVal}
+use Rattle.lexer.specs.Step.{wordP, placeP, passed, refused, countedP}
+use Rattle.lexer.specs.Reads.{at, Leads, Goal, made, reach, same, Gives, Comes, Counts}
 use Rattle.lexer.specs.declared.Cursor.{Cursor}
 use Rattle.lexer.specs.declared.Parsed.{Parsed}
 use Rattle.lexer.specs.declared.Parsed.the-variants.{Ok, Refused}
-use Rattle.lexer.proofs.Laws.{true-false, some-word, run-eat, moved, done, stay, then, val, byte-yes, byte-no, token-yes, token-no, fail-is, call, place-at}
-use Rattle.types.specs.Reading.{typed, Types}
-use Rattle.types.proofs.TypeLaws.{Stuck, type-then, more, no-more, space-run, byte-run-no, word-run-no, rank-run-no, fail-run, stuck-out}
+use Rattle.lexer.proofs.Laws.{more, no-more, no-ok, true-false, some-word, run-eat, moved, done, stay, then, val, fail-is, call, place-at}
+use Rattle.lexer.proofs.Children.{assoc, child-is, counted-hands, if-there, comma-yes, comma-no}
+use Rattle.types.specs.Reading.{Types}
+use Rattle.types.proofs.TypeLaws.{Stuck, type-then, space-run, byte-run-no, word-run-no, rank-run-no, fail-run, type-child, comma-again, comma-stop, comma-turn}
 use Rattle.values.specs.Leaf.{Tried, keyValues, wordValues}
 
 -- ---- at a parenthesis no value begins
@@ -82,52 +84,58 @@ pub pair-some : {text : List ℕ} {p q r : Parsed} {w w1 w2 : List ℕ} (d : ℕ
 pair-some zero n t v = absurd (n refl)
 pair-some (suc d) n t v = pair-at d t v
 
+-- ---- a typed value as the next children of a list
+stuck-child : {B : Type 0} (d n : ℕ) (h : List ℕ → List ℕ → Prog B) → Stuck 6 (λ t. child n (parseValue (suc d)) >>= h t)
+unfolding child
+stuck-child d n h t i s e = assoc (parseValue (suc d)) (room n) (h t) i s ∙ stuck-value d (λ t v. room n v >>= h t) t i s e
+
+pub child-none : {d : ℕ} (n : ℕ) {text : List ℕ} {p q r : Parsed} {w : List ℕ} → d ≡ 0 → Gives eatWs tt text p q → r ≡ refused 16 q → Leads (pairChild (parseType d) (parseValue d) n) 0 [] (made same text p) text p p w r w
+unfolding pairChild typeChild child parseType whole eatWs refuse _>>=_
+child-none n e g h = rw e (val {f = eatWs} (λ _. refuse 16) g (fail-is _ h))
+
+pub none-counted : (e : ℕ) (q : Parsed) {r : Parsed} {m k : ℕ} → r ≡ refused e q → Counts r m k
+none-counted e (Ok c) h cur o = no-ok cur e (c .at) (sym o ∙ h)
+none-counted e (Refused a b) h cur o = no-ok cur a b (sym o ∙ h)
+
+module _ (n k : ℕ) {text : List ℕ} {p q1 q2 q3 q4 : Parsed} {w w1 w2 : List ℕ} (x : q2 ≡ countedP n q1) (e : n < 65535 → k ≡ n + 1) (x2 : q4 ≡ countedP k q3) where
+  child-at : (d : ℕ) → Types (suc d) text p w q1 w1 → Leads (parseValue (suc d)) 0 [] (made same text q2) text q2 q2 w1 q3 w2 → Leads (pairChild (parseType (suc d)) (parseValue (suc d)) n) 0 [] (made same text p) text p p w q4 w2
+  unfolding pairChild
+  child-at d t v = type-child n 6 _ t x (stuck-child d (n + 1) (λ t v. ret (t ++ v))) (λ i j z. counted-hands k q3 x2 (v .hands i j z))
+      (λ t lt. then _ (subst (λ (j : ℕ). Leads (child j (parseValue (suc d))) 0 [] (made same text q2) text q2 q2 w1 q4 w2) (e lt) (child-is k x2 v)) (λ v. done))
+
+  pub child-some : (d : ℕ) → (d ≡ 0 → ⊥) → Types d text p w q1 w1 → Leads (parseValue d) 0 [] (made same text q2) text q2 q2 w1 q3 w2 → Leads (pairChild (parseType d) (parseValue d) n) 0 [] (made same text p) text p p w q4 w2
+  child-some zero z t v = absurd (z refl)
+  child-some (suc d) z t v = child-at d t v
+
 -- ---- typed values behind commas
-module _ (d : ℕ) {text : List ℕ} {p0 q q1 q2 : Parsed} {v v1 : List ℕ} (u end n : ℕ) (r : Leads (parseTypedVal d) 0 [] (made same text q) text q q v q1 v1) (ws : List ℕ) where
-  module _ (pos : 0 < u) (gw : Gives eatWs tt text q1 q2) where
-    turn : {E : Goal Listed} {q3 : Parsed} {v3 : List ℕ} → ((x : List ℕ) → Leads (byteIf 44 (pairs (u - 1) end (parseType d) (parseValue d) (n + 2) (ws ++ x)) (byteIf end (ret (listed (n + 2) 0 (ws ++ x))) (refuse 3))) 0 (ws ++ x) E text p0 q2 v1 q3 v3) → Leads (pairs u end (parseType d) (parseValue d) n ws) 0 ws E text p0 q v q3 v3
-    unfolding pairs parseTypedVal
-    turn {E} {q3} {v3} k = more (λ z. pairs z end (parseType d) (parseValue d) n ws) u pos (then _ r (λ x. val _ gw (k x)))
+abbrev pub pairsOf : ℕ → ℕ → ℕ → ℕ → List ℕ → Prog Listed
+pairsOf d u end n ws = commaList u 2 end (pairChild (parseType d) (parseValue d)) n ws
 
-    pub pairs-more : {z : Bool} {q3 : Parsed} (m : ℕ) → m ≡ n + 2 → z ≡ looksP text q2 44 → z ≡ true → q3 ≡ passed text 1 q2 → Leads (pairs u end (parseType d) (parseValue d) n ws) 0 ws (reach (pairs (u - 1) end (parseType d) (parseValue d) m) text p0) text p0 q v q3 v1
-    pairs-more {z} {q3} m e l y x = turn (λ t. byte-yes _ _ l y x (subst (λ (j : ℕ). Leads (pairs (u - 1) end (parseType d) (parseValue d) j (ws ++ t)) 3 (ws ++ t) (reach (pairs (u - 1) end (parseType d) (parseValue d) m) text p0) text p0 q3 v1 q3 v1) e (stay (pairs (u - 1) end (parseType d) (parseValue d) m))))
+module _ (d : ℕ) {text : List ℕ} {p0 q q1 q2 : Parsed} {v v1 : List ℕ} (u end n m : ℕ) (pos : 0 < u) (r : Leads (pairChild (parseType d) (parseValue d) n) 0 [] (made same text q) text q q v q1 v1 × Counts q1 m (n + 2)) (ws : List ℕ) {b : Bool} (cm : (x y : Prog Listed) → Comes (commaOr end x y) (pick b x y) text q1 q2) where
+  pub pairs-more : b ≡ true → Leads (pairsOf d u end n ws) 0 ws (reach (pairsOf d (u - 1) end m) text p0) text p0 q v q2 v1
+  pairs-more y = comma-turn u 2 end n (pairChild (parseType d) (parseValue d)) ws pos (then _ (r .0) (λ t. if-there (cm (refuse 3) (refuse 3) .hands) (λ cur o. comma-again end cm _ m (r .1 cur o) (ws ++ t) (pairsOf d (u - 1) end) _ y)))
 
-    pub pairs-end : {z z2 : Bool} {q3 : Parsed} (m : ℕ) → m ≡ n + 2 → z ≡ looksP text q2 44 → z ≡ false → z2 ≡ looksP text q2 end → z2 ≡ true → q3 ≡ passed text 1 q2 → Leads (pairs u end (parseType d) (parseValue d) n ws) 0 ws (made (listed m 0) text p0) text p0 q v q3 v1
-    pairs-end {z} {z2} {q3} m e l y l2 y2 x = turn (λ t. byte-no _ _ l y (byte-yes _ _ l2 y2 x (subst (λ (j : ℕ). Leads (ret (listed j 0 (ws ++ t))) 3 (ws ++ t) (made (listed m 0) text p0) text p0 q3 v1 q3 v1) e done)))
-
-    pub pairs-bad : {E : Goal Listed} {z z2 : Bool} {q3 : Parsed} → z ≡ looksP text q2 44 → z ≡ false → z2 ≡ looksP text q2 end → z2 ≡ false → q3 ≡ refused 3 q2 → Leads (pairs u end (parseType d) (parseValue d) n ws) 0 ws E text p0 q v q3 v1
-    pairs-bad l y l2 y2 x = turn (λ t. byte-no _ _ l y (byte-no _ _ l2 y2 (fail-is _ x)))
-
-  pub pairs-out : {E : Goal Listed} → u ≤ 0 → q2 ≡ refused 19 q1 → Leads (pairs u end (parseType d) (parseValue d) n ws) 0 ws E text p0 q v q2 v1
-  unfolding pairs parseTypedVal overValue
-  pairs-out l x = no-more (λ z. pairs z end (parseType d) (parseValue d) n ws) u l (then _ r (λ t. fail-is _ x))
+  pub pairs-end : b ≡ false → Leads (pairsOf d u end n ws) 0 ws (made (listed m 0) text p0) text p0 q v q2 v1
+  pairs-end y = comma-turn u 2 end n (pairChild (parseType d) (parseValue d)) ws pos (then _ (r .0) (λ t. if-there (cm (refuse 3) (refuse 3) .hands) (λ cur o. comma-stop end cm _ m (r .1 cur o) (ws ++ t) _ y)))
 
 -- ---- the indices of a constant getelementptr
-module _ (d : ℕ) {text : List ℕ} {p0 q q1 : Parsed} {v : List ℕ} (u n : ℕ) (gw : Gives eatWs tt text q q1) (ws : List ℕ) where
-  pub indices-end : {z z2 : Bool} {q2 : Parsed} → z ≡ looksP text q1 44 → z ≡ false → z2 ≡ looksP text q1 41 → z2 ≡ true → q2 ≡ passed text 1 q1 → Leads (gepIndices u (parseType d) (parseValue d) n ws) 0 ws (made (listed n 0) text p0) text p0 q v q2 v
+abbrev pub indicesOf : ℕ → ℕ → ℕ → List ℕ → Prog Listed
+indicesOf d u n ws = gepIndices u (parseType d) (parseValue d) n ws
+
+module _ (d : ℕ) {text : List ℕ} {p0 q q1 : Parsed} {v : List ℕ} (u n : ℕ) (ws : List ℕ) where
+  pub indices-out : {E : Goal Listed} → u ≤ 0 → q1 ≡ refused 19 q → Leads (indicesOf d u n ws) 0 ws E text p0 q v q1 v
   unfolding gepIndices
-  indices-end {z} {z2} {q2} l y l2 y2 x = go u
-    where
-      go : (u : ℕ) → Leads (gepIndices u (parseType d) (parseValue d) n ws) 0 ws (made (listed n 0) text p0) text p0 q v q2 v
-      go zero = token-no _ _ gw l y (byte-yes _ _ l2 y2 x done)
-      go (suc u) = token-no _ _ gw l y (byte-yes _ _ l2 y2 x done)
+  indices-out h x = no-more (λ z. indicesOf d z n ws) u h (fail-is _ x)
 
-  pub indices-bad : {E : Goal Listed} {z z2 : Bool} {q2 : Parsed} → z ≡ looksP text q1 44 → z ≡ false → z2 ≡ looksP text q1 41 → z2 ≡ false → q2 ≡ refused 3 q1 → Leads (gepIndices u (parseType d) (parseValue d) n ws) 0 ws E text p0 q v q2 v
-  unfolding gepIndices
-  indices-bad {E} {z} {z2} {q2} l y l2 y2 x = go u
-    where
-      go : (u : ℕ) → Leads (gepIndices u (parseType d) (parseValue d) n ws) 0 ws E text p0 q v q2 v
-      go zero = token-no _ _ gw l y (byte-no _ _ l2 y2 (fail-is _ x))
-      go (suc u) = token-no _ _ gw l y (byte-no _ _ l2 y2 (fail-is _ x))
+  module _ (pos : 0 < u) {b : Bool} (cm : (x y : Prog Listed) → Comes (commaOr 41 x y) (pick b x y) text q q1) where
+    pub indices-end : b ≡ false → Leads (indicesOf d u n ws) 0 ws (made (listed n 0) text p0) text p0 q v q1 v
+    unfolding gepIndices
+    indices-end y = more (λ z. indicesOf d z n ws) u pos (comma-no 41 cm _ _ y done)
 
-  module _ {z : Bool} {q2 q3 q4 : Parsed} {v4 : List ℕ} (l : z ≡ looksP text q1 44) (y : z ≡ true) (x : q2 ≡ passed text 1 q1) (g : Gives (skipKeyword (bytes "inrange")) tt text q2 q3) where
-    pub indices-more : (m : ℕ) → m ≡ n + 2 → 0 < u → Leads (parseTypedVal d) 0 [] (made same text q3) text q3 q3 v q4 v4 → Leads (gepIndices u (parseType d) (parseValue d) n ws) 0 ws (reach (gepIndices (u - 1) (parseType d) (parseValue d) m) text p0) text p0 q v q4 v4
-    unfolding gepIndices parseTypedVal
-    indices-more m e pos r = more (λ z. gepIndices z (parseType d) (parseValue d) n ws) u pos (token-yes _ _ gw l y x (val _ g (then _ r (λ t. subst (λ (j : ℕ). Leads (gepIndices (u - 1) (parseType d) (parseValue d) j (ws ++ t)) 3 (ws ++ t) (reach (gepIndices (u - 1) (parseType d) (parseValue d) m) text p0) text p0 q4 v4 q4 v4) e (stay (gepIndices (u - 1) (parseType d) (parseValue d) m))))))
-
-    pub indices-out : {E : Goal Listed} {q5 : Parsed} → u ≤ 0 → Types d text q3 v q4 v4 → q5 ≡ refused 19 q4 → Leads (gepIndices u (parseType d) (parseValue d) n ws) 0 ws E text p0 q v q5 v4
-    unfolding gepIndices overType
-    indices-out h r o = no-more (λ z. gepIndices z (parseType d) (parseValue d) n ws) u h (token-yes _ _ gw l y x (val _ g (type-then 19 _ r stuck-out (λ t. fail-is _ o))))
+    pub indices-more : (m : ℕ) {q2 q3 : Parsed} {v3 : List ℕ} → b ≡ true → Gives (skipKeyword (bytes "inrange")) tt text q1 q2 → Leads (pairChild (parseType d) (parseValue d) n) 0 [] (made same text q2) text q2 q2 v q3 v3 × Counts q3 m (n + 2) → Leads (indicesOf d u n ws) 0 ws (reach (indicesOf d (u - 1) m) text p0) text p0 q v q3 v3
+    unfolding gepIndices
+    indices-more m {q2} {q3} {v3} y g r = more (λ z. indicesOf d z n ws) u pos (comma-yes 41 cm _ _ y (val _ g (then _ (r .0) (λ t. if-there (λ i j z. z) (λ cur o.
+        subst (λ (j : ℕ). Leads (indicesOf d (u - 1) j (ws ++ t)) 0 (ws ++ t) (reach (indicesOf d (u - 1) m) text p0) text p0 q3 v3 q3 v3) (r .1 cur o) (stay (indicesOf d (u - 1) m)))))))
 
 -- ---- a word that stays, and the first byte of one
 read-word : (text : List ℕ) (p : Parsed) (kw : List ℕ) {r z : Bool} {cur : Cursor} → r ≡ wordP text p kw → r ≡ z → p ≡ Ok cur → sameWord (leadWord (drop (cur .at) text)) kw ≡ z

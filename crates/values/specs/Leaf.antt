@@ -8,7 +8,7 @@ use lib.ListN.{length}
 use Rattle.program.specs.Bytes.{bytes}
 use Rattle.program.specs.Prog.{Prog, ret, _>>=_}
 use Rattle.records.specs.Words.{node}
-use Rattle.grammar.specs.Kinds.{kIntConst, kNull, kUndef, kPoison, kZeroInit}
+use Rattle.records.specs.Kinds.{kIntConst, kNull, kUndef, kPoison, kZeroInit}
 use Rattle.grammar.specs.Lexer.{wordIf, wordAtIf}
 use Rattle.grammar.specs.Numbers.{parseF0x}
 use Rattle.grammar.specs.Values.{prefixIf, floatNode, cstring, parseGepFlags}

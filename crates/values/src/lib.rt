@@ -1,31 +1,21 @@
 // The reader of values and constants (parser.rs, "Values"). Each function writes the words of what it reads behind the cursor.
 use lexer::Parsed;
-use numerals::Hit;
+use literals::Hit;
 use types::Listed;
 ghost use mathlib.Core.Path.{_≡_};
-ghost use mathlib.Core.Bool.{Bool, true};
+ghost use mathlib.Core.Bool.{true};
 ghost use mathlib.Core.List.{List, [], _∷_};
 ghost use Prim.Native.Nat.{ℕ, _+_, _<_};
 ghost use Rattle.program.specs.Bytes.{bytes};
 ghost use Rattle.program.specs.Prog.{ret};
 ghost use Rattle.records.specs.Words.{node};
-ghost use Rattle.grammar.specs.Lexer.{turns};
+ghost use Rattle.records.specs.Limits.{turns};
 ghost use Rattle.grammar.specs.Types.{listed, parseType};
-ghost use Rattle.grammar.specs.Values.{convOps, binOps, cstring, leafValues, pairList, aggregate, packedConst, parseGepFlags, gepIndices, parseCeGep, parseCeConv, parseCeBin, constExprs, parseValue, parseTypedVal};
+ghost use Rattle.grammar.specs.Values.{convOps, binOps, cstring, leafValues, pairChild, pairList, aggregate, packedConst, parseGepFlags, gepIndices, parseCeGep, parseCeConv, parseCeBin, constExprs, parseValue, parseTypedVal};
 ghost use Rattle.lexer.specs.Table.{Classes};
 ghost use Rattle.lexer.specs.Step.{wordP};
-ghost use Rattle.lexer.specs.Reads.{Leads, Reads, Gives, made, same};
+ghost use Rattle.lexer.specs.Reads.{Leads, Reads, Gives, Counts, made, same};
 ghost use Rattle.values.specs.Leaf.{Tried, keyValues, Op, FlagStep};
-
-// Two more, below the children's limit.
-pub fn two_more(n: u16) -> u16
-    ensures { λ r. ⌜ (n < 65534 → r ≡ n + 2) ⌝ }
-{
-    if n < 65534 {
-        return n + 2;
-    }
-    n
-}
 
 // An operator's rank, and whether one stands there.
 pub struct Oper {
@@ -106,7 +96,7 @@ fn gep_flag(classes: &[u8; 256], text: &[u8], p: Parsed, v: u8) -> Flags
 {
     let q = lexer::eat_ws(classes, text, p);
     if lexer::word(classes, text, q, b"inbounds") {
-        let q1 = lexer::pass(text, q, 8);
+        let q1 = lexer::pass_word(text, q, b"inbounds");
         return Flags {
             p: q1,
             v: 1,
@@ -114,7 +104,7 @@ fn gep_flag(classes: &[u8; 256], text: &[u8], p: Parsed, v: u8) -> Flags
         };
     }
     if lexer::word(classes, text, q, b"nuw") {
-        let q1 = lexer::pass(text, q, 3);
+        let q1 = lexer::pass_word(text, q, b"nuw");
         return Flags {
             p: q1,
             v,
@@ -122,7 +112,7 @@ fn gep_flag(classes: &[u8; 256], text: &[u8], p: Parsed, v: u8) -> Flags
         };
     }
     if lexer::word(classes, text, q, b"nusw") {
-        let q1 = lexer::pass(text, q, 4);
+        let q1 = lexer::pass_word(text, q, b"nusw");
         return Flags {
             p: q1,
             v,
@@ -130,8 +120,8 @@ fn gep_flag(classes: &[u8; 256], text: &[u8], p: Parsed, v: u8) -> Flags
         };
     }
     if lexer::word(classes, text, q, b"inrange") {
-        let q1 = lexer::pass(text, q, 7);
-        let q2 = lexer::skip_parens(classes, text, q1);
+        let q1 = lexer::pass_word(text, q, b"inrange");
+        let q2 = names::skip_parens(classes, text, q1);
         return Flags {
             p: q2,
             v,
@@ -152,7 +142,7 @@ pub fn parse_gep_flags(classes: &[u8; 256], text: &[u8], p: Parsed) -> Flags
 {
     let mut q = p;
     let mut v: u8 = 0;
-    let mut left: usize = 16777217;
+    let mut left: usize = records::TURNS;
     while 0 < left {
         let f = gep_flag(classes, text, q, v);
         q = f.p;
@@ -178,10 +168,10 @@ pub fn parse_gep_flags(classes: &[u8; 256], text: &[u8], p: Parsed) -> Flags
 fn bool_node(words: &mut [u64], p: Parsed, x: u64) -> Parsed
     ensures { λ r. ⌜ ((text : List ℕ) → Leads (ret (node 18 0 0 (0 ∷ x ∷ []))) 3 [] (made same text p) text p p (now (words .entry)) r (now (words .exit))) ⌝ }
 {
-    let p1 = lexer::push(words, p, 0);
-    let p2 = lexer::push(words, p1, 0);
-    let p3 = lexer::push(words, p2, x);
-    lexer::close(words, p, p3, 18, 0, 0)
+    let p1 = writer::push(words, p, 0);
+    let p2 = writer::push(words, p1, 0);
+    let p3 = writer::push(words, p2, x);
+    writer::close(words, p, p3, records::K_INT_CONST, 0, 0)
 }
 
 // The values that are a word. No two words stand at one place, so they are tried by how often they come.
@@ -190,33 +180,33 @@ fn key_value(classes: &[u8; 256], text: &[u8], words: &mut [u64], p: Parsed) -> 
     ensures { λ r. ⌜ Tried keyValues (now (text .entry)) p (now (words .entry)) (r .p) (r .hit) (now (words .exit)) ⌝ }
 {
     if lexer::word(classes, text, p, b"null") {
-        let q = lexer::pass(text, p, 4);
-        let r = types::leaf(words, q, 20);
+        let q = lexer::pass_word(text, p, b"null");
+        let r = types::leaf(words, q, records::K_NULL);
         return Hit { p: r, hit: true };
     }
     if lexer::word(classes, text, p, b"true") {
-        let q = lexer::pass(text, p, 4);
+        let q = lexer::pass_word(text, p, b"true");
         let r = bool_node(words, q, 1);
         return Hit { p: r, hit: true };
     }
     if lexer::word(classes, text, p, b"false") {
-        let q = lexer::pass(text, p, 5);
+        let q = lexer::pass_word(text, p, b"false");
         let r = bool_node(words, q, 0);
         return Hit { p: r, hit: true };
     }
     if lexer::word(classes, text, p, b"undef") {
-        let q = lexer::pass(text, p, 5);
-        let r = types::leaf(words, q, 21);
+        let q = lexer::pass_word(text, p, b"undef");
+        let r = types::leaf(words, q, records::K_UNDEF);
         return Hit { p: r, hit: true };
     }
     if lexer::word(classes, text, p, b"poison") {
-        let q = lexer::pass(text, p, 6);
-        let r = types::leaf(words, q, 22);
+        let q = lexer::pass_word(text, p, b"poison");
+        let r = types::leaf(words, q, records::K_POISON);
         return Hit { p: r, hit: true };
     }
     if lexer::word(classes, text, p, b"zeroinitializer") {
-        let q = lexer::pass(text, p, 15);
-        let r = types::leaf(words, q, 23);
+        let q = lexer::pass_word(text, p, b"zeroinitializer");
+        let r = types::leaf(words, q, records::K_ZERO_INIT);
         return Hit { p: r, hit: true };
     }
     Hit { p, hit: false }
@@ -230,15 +220,15 @@ fn cstring_value(classes: &[u8; 256], text: &[u8], words: &mut [u64], p: Parsed)
     let at = lexer::place(p);
     let q = lexer::pass(text, p, 1);
     let from = lexer::place(q);
-    if lexer::looks(text, q, 34) {
+    if lexer::looks(text, q, b'"') {
         let q1 = lexer::pass(text, q, 1);
-        let q2 = lexer::push(words, q1, 0);
-        let n = lexer::cstring(classes, text, q2, from);
+        let q2 = writer::push(words, q1, 0);
+        let n = names::cstring(classes, text, q2, from);
         let q3 = n.p;
-        let q4 = lexer::push(words, q3, n.v);
-        return lexer::close(words, p, q4, 24, 0, 0);
+        let q4 = writer::push(words, q3, n.v);
+        return writer::close(words, p, q4, records::K_CSTR, 0, 0);
     }
-    lexer::refuse_at(q, 6, at)
+    lexer::refuse_at(q, records::Q_VALUE, at)
 }
 
 // The values that hold no other.
@@ -246,17 +236,17 @@ fn any_leaf(classes: &[u8; 256], text: &[u8], words: &mut [u64], p: Parsed) -> H
     requires { ⌜ Classes (now classes) ⌝ }
     ensures { λ r. ⌜ Tried leafValues (now (text .entry)) p (now (words .entry)) (r .p) (r .hit) (now (words .exit)) ⌝ }
 {
-    if lexer::looks(text, p, 37) {
+    if lexer::looks(text, p, b'%') {
         let q = lexer::pass(text, p, 1);
-        let r = types::name_node(classes, text, words, q, 16);
+        let r = types::name_node(classes, text, words, q, records::K_LOCAL);
         return Hit { p: r, hit: true };
     }
-    if lexer::looks(text, p, 64) {
+    if lexer::looks(text, p, b'@') {
         let q = lexer::pass(text, p, 1);
-        let r = types::name_node(classes, text, words, q, 17);
+        let r = types::name_node(classes, text, words, q, records::K_GLOBAL);
         return Hit { p: r, hit: true };
     }
-    let n = numerals::numeric(classes, text, words, p);
+    let n = literals::numeric(classes, text, words, p);
     let q = n.p;
     if n.hit {
         return Hit { p: q, hit: true };
@@ -270,9 +260,9 @@ fn any_leaf(classes: &[u8; 256], text: &[u8], words: &mut [u64], p: Parsed) -> H
         let r = cstring_value(classes, text, words, p);
         return Hit { p: r, hit: true };
     }
-    if numerals::starts(classes, text, p, b"f0x") {
-        let q2 = lexer::pass(text, p, 3);
-        let r = numerals::f0x_value(classes, text, words, q2);
+    if literals::starts(classes, text, p, b"f0x") {
+        let q2 = lexer::pass_word(text, p, b"f0x");
+        let r = literals::f0x_value(classes, text, words, q2);
         return Hit { p: r, hit: true };
     }
     Hit { p, hit: false }
@@ -310,40 +300,22 @@ fn pair_list(
             dots: 0,
         };
     }
-    let mut left: u16 = 32767;
+    let mut left: usize = records::LIST_TURNS;
     let mut n: u16 = 0;
     while 0 < left {
-        let q1 = parse_typed_val(classes, text, words, q, depth);
-        let q2 = lexer::eat_ws(classes, text, q1);
-        if lexer::looks(text, q2, 44) {
-            q = lexer::pass(text, q2, 1);
+        let x = pair_child(classes, text, words, q, n, depth);
+        let q1 = x.p;
+        let e = lexer::comma_or(classes, text, q1, end);
+        n = x.n;
+        q = e.p;
+        if e.more {
             left -= 1;
-            n = two_more(n);
         } else {
-            if lexer::looks(text, q2, end) {
-                let q3 = lexer::pass(text, q2, 1);
-                let m = two_more(n);
-                return Listed {
-                    p: q3,
-                    n: m,
-                    dots: 0,
-                };
-            }
-            let q3 = lexer::refuse(q2, 3);
-            return Listed {
-                p: q3,
-                n: 0,
-                dots: 0,
-            };
+            return Listed { p: q, n, dots: 0 };
         }
     }
-    let q1 = parse_typed_val(classes, text, words, q, depth);
-    let q2 = lexer::refuse(q1, 19);
-    Listed {
-        p: q2,
-        n: 0,
-        dots: 0,
-    }
+    let q1 = lexer::refuse(q, records::Q_CHILDREN);
+    Listed { p: q1, n, dots: 0 }
 }
 
 // `[..]` and `{..}`, behind the opening byte.
@@ -359,10 +331,10 @@ fn aggregate(
     requires { ⌜ Classes (now classes) ⌝ }
     ensures { λ r. ⌜ Leads (aggregate kind end (parseType depth) (parseValue depth)) 1 [] (made same (now (text .entry)) p) (now (text .entry)) p p (now (words .entry)) r (now (words .exit)) ⌝ }
 {
-    let p1 = lexer::push(words, p, 0);
+    let p1 = writer::push(words, p, 0);
     let l = pair_list(classes, text, words, p1, end, depth);
     let p2 = l.p;
-    lexer::close(words, p, p2, kind, 0, l.n)
+    writer::close(words, p, p2, kind, 0, l.n)
 }
 
 // `<{..}>`, behind the `<` that stands at `at`.
@@ -377,15 +349,15 @@ fn packed_const(
     requires { ⌜ Classes (now classes) ⌝ }
     ensures { λ r. ⌜ Leads (packedConst at (parseType depth) (parseValue depth)) 1 [] (made same (now (text .entry)) p) (now (text .entry)) p p (now (words .entry)) r (now (words .exit)) ⌝ }
 {
-    if lexer::looks(text, p, 123) {
+    if lexer::looks(text, p, b'{') {
         let p1 = lexer::pass(text, p, 1);
-        let p2 = lexer::push(words, p1, 0);
-        let l = pair_list(classes, text, words, p2, 125, depth);
+        let p2 = writer::push(words, p1, 0);
+        let l = pair_list(classes, text, words, p2, b'}', depth);
         let p3 = l.p;
-        let p4 = lexer::expect_token(classes, text, p3, 62);
-        return lexer::close(words, p, p4, 26, 0, l.n);
+        let p4 = lexer::expect_token(classes, text, p3, b'>');
+        return writer::close(words, p, p4, records::K_STRUCT_CONST, 0, l.n);
     }
-    lexer::refuse_at(p, 6, at)
+    lexer::refuse_at(p, records::Q_VALUE, at)
 }
 
 // The indices of a constant getelementptr, from before the comma through the `)`.
@@ -397,54 +369,26 @@ fn gep_indices(
     depth: usize,
 ) -> Listed
     requires { ⌜ Classes (now classes) ⌝ }
-    ensures { λ r. ⌜ Leads (gepIndices 32766 (parseType depth) (parseValue depth) 3 []) 0 [] (made (listed (r .n) 0) (now (text .entry)) p) (now (text .entry)) p p (now (words .entry)) (r .p) (now (words .exit)) ⌝ }
+    ensures { λ r. ⌜ Leads (gepIndices 65536 (parseType depth) (parseValue depth) 3 []) 0 [] (made (listed (r .n) 0) (now (text .entry)) p) (now (text .entry)) p p (now (words .entry)) (r .p) (now (words .exit)) ⌝ }
 {
     let mut q = p;
-    let mut left: u16 = 32766;
+    let mut left: usize = records::LIST_TURNS;
     let mut n: u16 = 3;
     while 0 < left {
-        let q1 = lexer::eat_ws(classes, text, q);
-        if lexer::looks(text, q1, 44) {
-            let q2 = lexer::pass(text, q1, 1);
-            let q3 = lexer::skip_keyword(classes, text, q2, b"inrange");
-            q = parse_typed_val(classes, text, words, q3, depth);
+        let e = lexer::comma_or(classes, text, q, b')');
+        let q1 = e.p;
+        if e.more {
+            let q2 = lexer::skip_keyword(classes, text, q1, b"inrange");
+            let x = pair_child(classes, text, words, q2, n, depth);
+            q = x.p;
+            n = x.n;
             left -= 1;
-            n = two_more(n);
         } else {
-            if lexer::looks(text, q1, 41) {
-                let q2 = lexer::pass(text, q1, 1);
-                return Listed { p: q2, n, dots: 0 };
-            }
-            let q2 = lexer::refuse(q1, 3);
-            return Listed {
-                p: q2,
-                n: 0,
-                dots: 0,
-            };
+            return Listed { p: q1, n, dots: 0 };
         }
     }
-    let q1 = lexer::eat_ws(classes, text, q);
-    if lexer::looks(text, q1, 44) {
-        let q2 = lexer::pass(text, q1, 1);
-        let q3 = lexer::skip_keyword(classes, text, q2, b"inrange");
-        let q4 = types::parse_type(classes, text, words, q3, depth);
-        let q5 = lexer::refuse(q4, 19);
-        return Listed {
-            p: q5,
-            n: 0,
-            dots: 0,
-        };
-    }
-    if lexer::looks(text, q1, 41) {
-        let q2 = lexer::pass(text, q1, 1);
-        return Listed { p: q2, n, dots: 0 };
-    }
-    let q2 = lexer::refuse(q1, 3);
-    Listed {
-        p: q2,
-        n: 0,
-        dots: 0,
-    }
+    let q1 = lexer::refuse(q, records::Q_CHILDREN);
+    Listed { p: q1, n, dots: 0 }
 }
 
 // A constant getelementptr, behind the word (`parse_ce_gep`).
@@ -460,14 +404,14 @@ fn parse_ce_gep(
 {
     let f = parse_gep_flags(classes, text, p);
     let p1 = f.p;
-    let p2 = lexer::push(words, p1, 0);
-    let p3 = lexer::expect_token(classes, text, p2, 40);
+    let p2 = writer::push(words, p1, 0);
+    let p3 = lexer::expect_token(classes, text, p2, b'(');
     let p4 = types::parse_type(classes, text, words, p3, depth);
-    let p5 = lexer::expect_token(classes, text, p4, 44);
+    let p5 = lexer::expect_token(classes, text, p4, b',');
     let p6 = parse_typed_val(classes, text, words, p5, depth);
     let l = gep_indices(classes, text, words, p6, depth);
     let p7 = l.p;
-    lexer::close(words, p, p7, 27, f.v, l.n)
+    writer::close(words, p, p7, records::K_GEP_EXPR, f.v, l.n)
 }
 
 // A conversion of a constant, behind the word (`parse_ce_conv_body`).
@@ -482,13 +426,13 @@ fn parse_ce_conv(
     requires { ⌜ Classes (now classes) ⌝ }
     ensures { λ r. ⌜ Leads (parseCeConv op (parseType depth) (parseValue depth)) 1 [] (made same (now (text .entry)) p) (now (text .entry)) p p (now (words .entry)) r (now (words .exit)) ⌝ }
 {
-    let p1 = lexer::push(words, p, 0);
-    let p2 = lexer::expect_token(classes, text, p1, 40);
+    let p1 = writer::push(words, p, 0);
+    let p2 = lexer::expect_token(classes, text, p1, b'(');
     let p3 = parse_typed_val(classes, text, words, p2, depth);
     let p4 = lexer::expect_keyword(classes, text, p3, b"to");
     let p5 = types::parse_type(classes, text, words, p4, depth);
-    let p6 = lexer::expect_token(classes, text, p5, 41);
-    lexer::close(words, p, p6, 28, op, 3)
+    let p6 = lexer::expect_token(classes, text, p5, b')');
+    writer::close(words, p, p6, records::K_CONV_EXPR, op, 3)
 }
 
 // An operation on two constants, behind the word.
@@ -503,14 +447,14 @@ fn parse_ce_bin(
     requires { ⌜ Classes (now classes) ⌝ }
     ensures { λ r. ⌜ Leads (parseCeBin op (parseType depth) (parseValue depth)) 1 [] (made same (now (text .entry)) p) (now (text .entry)) p p (now (words .entry)) r (now (words .exit)) ⌝ }
 {
-    let p1 = lexer::push(words, p, 0);
+    let p1 = writer::push(words, p, 0);
     let p2 = attributes::skip_arith_flags(classes, text, p1);
-    let p3 = lexer::expect_token(classes, text, p2, 40);
+    let p3 = lexer::expect_token(classes, text, p2, b'(');
     let p4 = parse_typed_val(classes, text, words, p3, depth);
-    let p5 = lexer::expect_token(classes, text, p4, 44);
+    let p5 = lexer::expect_token(classes, text, p4, b',');
     let p6 = parse_typed_val(classes, text, words, p5, depth);
-    let p7 = lexer::expect_token(classes, text, p6, 41);
-    lexer::close(words, p, p7, 29, op, 4)
+    let p7 = lexer::expect_token(classes, text, p6, b')');
+    writer::close(words, p, p7, records::K_BIN_EXPR, op, 4)
 }
 
 // Constant expressions, or 6.
@@ -525,7 +469,7 @@ fn const_exprs(
     ensures { λ r. ⌜ Reads (constExprs (parseType depth) (parseValue depth)) (now (text .entry)) p (now (words .entry)) r (now (words .exit)) ⌝ }
 {
     if lexer::word(classes, text, p, b"getelementptr") {
-        let q = lexer::pass(text, p, 13);
+        let q = lexer::pass_word(text, p, b"getelementptr");
         return parse_ce_gep(classes, text, words, q, depth);
     }
     let c = match_conv_op(classes, text, p);
@@ -538,7 +482,7 @@ fn const_exprs(
     if b.hit {
         return parse_ce_bin(classes, text, words, q1, b.r, depth);
     }
-    lexer::refuse(q1, 6)
+    lexer::refuse(q1, records::Q_VALUE)
 }
 
 // A value (`parse_value`).
@@ -554,27 +498,75 @@ pub fn parse_value(
 {
     let q = lexer::eat_ws(classes, text, p);
     if depth == 0 {
-        return lexer::refuse(q, 16);
+        return lexer::refuse(q, records::Q_DEPTH);
     }
     let h = leaf_value(classes, text, words, q);
     let r = h.p;
     if h.hit {
         return r;
     }
-    if lexer::looks(text, q, 91) {
+    if lexer::looks(text, q, b'[') {
         let q1 = lexer::pass(text, q, 1);
-        return aggregate(classes, text, words, q1, 25, 93, depth - 1);
+        return aggregate(
+            classes,
+            text,
+            words,
+            q1,
+            records::K_ARRAY_CONST,
+            b']',
+            depth - 1,
+        );
     }
-    if lexer::looks(text, q, 123) {
+    if lexer::looks(text, q, b'{') {
         let q1 = lexer::pass(text, q, 1);
-        return aggregate(classes, text, words, q1, 26, 125, depth - 1);
+        return aggregate(
+            classes,
+            text,
+            words,
+            q1,
+            records::K_STRUCT_CONST,
+            b'}',
+            depth - 1,
+        );
     }
-    if lexer::looks(text, q, 60) {
+    if lexer::looks(text, q, b'<') {
         let at = lexer::place(q);
         let q1 = lexer::pass(text, q, 1);
         return packed_const(classes, text, words, q1, at, depth - 1);
     }
     const_exprs(classes, text, words, q, depth - 1)
+}
+
+// How many children there are behind a typed value.
+pub struct Pair {
+    pub p: Parsed,
+    pub n: u16,
+}
+
+// A type and a value as the next children of a list, which has n so far.
+pub fn pair_child(
+    classes: &[u8; 256],
+    text: &[u8],
+    words: &mut [u64],
+    p: Parsed,
+    n: u16,
+    depth: usize,
+) -> Pair
+    requires { ⌜ Classes (now classes) ⌝ }
+    ensures { λ r. ⌜ Reads (pairChild (parseType depth) (parseValue depth) n) (now (text .entry)) p (now (words .entry)) (r .p) (now (words .exit)) × Counts (r .p) (r .n) (n + 2) ⌝ }
+{
+    if depth == 0 {
+        let q = lexer::eat_ws(classes, text, p);
+        let q1 = lexer::refuse(q, records::Q_DEPTH);
+        return Pair { p: q1, n };
+    }
+    let q1 = types::parse_type(classes, text, words, p, depth);
+    let q2 = lexer::count_child(q1, n);
+    let k = types::one_more(n);
+    let q3 = parse_value(classes, text, words, q2, depth);
+    let q4 = lexer::count_child(q3, k);
+    let m = types::one_more(k);
+    Pair { p: q4, n: m }
 }
 
 // A type and a value (`parse_typed_val`).
@@ -590,7 +582,7 @@ pub fn parse_typed_val(
 {
     if depth == 0 {
         let q = lexer::eat_ws(classes, text, p);
-        return lexer::refuse(q, 16);
+        return lexer::refuse(q, records::Q_DEPTH);
     }
     let q = types::parse_type(classes, text, words, p, depth);
     parse_value(classes, text, words, q, depth)

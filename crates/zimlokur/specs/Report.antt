@@ -1,22 +1,21 @@
 -- What the calls from outside report, in 01's numbers.
 -- Assumes nothing.
-use mathlib.Core.Path.{_≡_}
 use mathlib.Core.List.{List}
 use Prim.Native.Nat.{ℕ}
-use Rattle.records.specs.Pieces.{Answer, no-at, count, Left, left, Again, again-left}
+use Rattle.records.specs.Pieces.{Answer, refusedAt, count, Left, left, Again, again-left}
 
 -- the question that refuses, or 0; the place, 0 where it is accepted; the entry count, 0 where it is refused
 abbrev pub questionOf : Answer → ℕ
 questionOf (count n) = 0
-questionOf (no-at q p) = q
+questionOf (refusedAt q p) = q
 
 abbrev pub placeOf : Answer → ℕ
 placeOf (count n) = 0
-placeOf (no-at q p) = p
+placeOf (refusedAt q p) = p
 
 abbrev pub entriesOf : Answer → ℕ
 entriesOf (count n) = n
-entriesOf (no-at q p) = 0
+entriesOf (refusedAt q p) = 0
 
 -- A full reading leaves l: what is returned, what stands at `place` and `entries`, both arrays.
 pub data Reports : Left → (r place entries : ℕ) (words dir : List ℕ) → Type 0 where

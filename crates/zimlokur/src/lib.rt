@@ -3,7 +3,7 @@ use reading::Answer;
 use reading::Reread;
 ghost use mathlib.Core.Path.{_≡_};
 ghost use lib.ListN.{length};
-ghost use Rattle.grammar.specs.Again.{readingOf, rereadingOf};
+ghost use Rattle.grammar.specs.Function.{readingOf, rereadingOf};
 ghost use Rattle.lexer.specs.Place.{positionOf};
 ghost use Rattle.zimlokur.specs.Report.{Reports, ReportsAgain};
 
@@ -48,11 +48,11 @@ pub extern "C" fn zimlokur_reparse_define(
     ensures { λ r. ⌜ ReportsAgain (rereadingOf (now (words .entry)) (now (directory .entry)) «older_entries» (now (older .entry)) (now (newer .entry))) r (now (place .exit)) (now (entries .exit)) (now (first .exit)) (now (read .exit)) (now (words .exit)) (now (directory .exit)) ⌝ }
 {
     match reading::reparse_define(older, newer, words, directory, older_entries as usize) {
-        Reread::Accepted(n, a, b) => {
+        Reread::Accepted(renewed) => {
             *place = 0;
-            *entries = n as u64;
-            *first = a as u64;
-            *read = b as u64;
+            *entries = renewed.entries as u64;
+            *first = renewed.first as u64;
+            *read = renewed.read as u64;
             0
         }
         Reread::Refused(q, p) => {

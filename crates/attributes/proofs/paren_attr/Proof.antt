@@ -1,24 +1,10 @@
+-- The table's words, cut by their lengths, are those of the definition.
 use Rattle.grammar.specs.Attributes.{parenAttrs}
 use Rattle.lexer.specs.Table.{cut}
 use borrow.Author.Needs.{needs}
 use Rattle.attributes.proofs.paren_attr.Statement.{statement}
 use Rattle.attributes.proofs.paren_attr.Tie as tie
-use Rattle.attributes.proofs.paren_attr.Reads as reads
-use Rattle.attributes.proofs.paren_attr.Lts as lts
 
--- src/lib.rt:18:41
-slice-aggregate-match-rank : tie.Need-slice-aggregate-match-rank
-slice-aggregate-match-rank c = search needs
-
--- src/lib.rt:18:48
-slice-aggregate-match-rank-2 : tie.Need-slice-aggregate-match-rank-2
-slice-aggregate-match-rank-2 c = search needs
-
--- src/lib.rt:18:5
-match-rank-requires : tie.Need-match-rank-requires
-match-rank-requires c κs = search needs
-
--- src/lib.rt:13:1
 returns : tie.Need-returns
 unfolding parenAttrs cut
 returns c = c .match-rank .ensures
@@ -26,4 +12,4 @@ returns c = c .match-rank .ensures
 pub paren-attr-spec : {M : Type 1} → statement M
 paren-attr-spec =
     tie.close
-    (tie.spec slice-aggregate-match-rank slice-aggregate-match-rank-2 match-rank-requires returns)
+    (tie.spec (λ c. search needs) (λ c. search needs) (λ c κs. search needs) returns)

@@ -1,24 +1,10 @@
+-- The table's words, cut by their lengths, are those of the definition.
 use Rattle.grammar.specs.Attributes.{arithFlags, skipArithFlags}
 use Rattle.lexer.specs.Table.{cut}
 use borrow.Author.Needs.{needs}
 use Rattle.attributes.proofs.skip_arith_flags.Statement.{statement}
 use Rattle.attributes.proofs.skip_arith_flags.Tie as tie
-use Rattle.attributes.proofs.skip_arith_flags.Reads as reads
-use Rattle.attributes.proofs.skip_arith_flags.Lts as lts
 
--- src/lib.rt:54:39
-slice-aggregate-skip-all : tie.Need-slice-aggregate-skip-all
-slice-aggregate-skip-all c = search needs
-
--- src/lib.rt:54:46
-slice-aggregate-skip-all-2 : tie.Need-slice-aggregate-skip-all-2
-slice-aggregate-skip-all-2 c = search needs
-
--- src/lib.rt:54:5
-skip-all-requires : tie.Need-skip-all-requires
-skip-all-requires c κs = search needs
-
--- src/lib.rt:49:1
 returns : tie.Need-returns
 unfolding arithFlags skipArithFlags cut
 returns c = c .skip-all .ensures
@@ -26,4 +12,4 @@ returns c = c .skip-all .ensures
 pub skip-arith-flags-spec : {M : Type 1} → statement M
 skip-arith-flags-spec =
     tie.close
-    (tie.spec slice-aggregate-skip-all slice-aggregate-skip-all-2 skip-all-requires returns)
+    (tie.spec (λ c. search needs) (λ c. search needs) (λ c κs. search needs) returns)

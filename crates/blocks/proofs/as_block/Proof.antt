@@ -1,22 +1,13 @@
+-- Each form of the answer is one line of `asBlock`.
 use borrow.Author.Needs.{needs}
 use Rattle.blocks.proofs.as_block.Statement.{statement}
 use Rattle.blocks.proofs.as_block.Tie as tie
 
--- src/lib.rt:199:20
-enum-known-p : tie.Need-enum-known-p
-enum-known-p c = search needs
-
--- src/lib.rt:200:25
-enum-known-p-2 : tie.Need-enum-known-p-2
-enum-known-p-2 c = search needs
-
--- src/lib.rt:195:1
 returns : tie.Need-returns
 returns c = rw (c .before .p .given .1)
 
--- src/lib.rt:195:1
 returns-2 : tie.Need-returns-2
 returns-2 c = rw (c .before .p2 .given .1)
 
 pub as-block-spec : {M : Type 1} → statement M
-as-block-spec = tie.close (tie.spec enum-known-p enum-known-p-2 returns returns-2)
+as-block-spec = tie.close (tie.spec (λ c. search needs) (λ c. search needs) returns returns-2)

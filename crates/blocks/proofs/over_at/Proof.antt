@@ -1,14 +1,13 @@
+-- The definition makes the same test.
 use borrow.Author.Tests.{eq-eqb, ne-eqb}
 use Rattle.grammar.specs.Body.{overAt}
 use Rattle.blocks.proofs.over_at.Statement.{statement}
 use Rattle.blocks.proofs.over_at.Tie as tie
 
--- src/lib.rt:109:1
 returns : tie.Need-returns
 unfolding overAt
 returns c = rw (overAt, eq-eqb _ _ (c .if1 .taken))
 
--- src/lib.rt:109:1
 returns-2 : tie.Need-returns-2
 unfolding overAt
 returns-2 c = rw (overAt, ne-eqb _ _ (c .if1 .left))

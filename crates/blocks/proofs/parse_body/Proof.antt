@@ -1,13 +1,15 @@
+-- The invariant: the definition with all its turns is the definition from `q` with those left, the last label and the instructions written so far;
+-- instructions and turns left are together no more than the turns, so the count does not overflow.
 use mathlib.Core.Path.{_≡_, refl, _∙_}
 use mathlib.Core.List.{[]}
-use Prim.Native.Nat.{_+_, _-_, _≤_}
+use Prim.Native.Nat.{_+_, _≤_}
 use native.Mathlib.Omega.{arith}
 use lib.ListN.{length}
 use Rattle.grammar.specs.Body.{parseBody}
 use Rattle.lexer.specs.Reads.{Leads, reach}
 use Rattle.lexer.proofs.Laws.{stay}
-use Rattle.instructions.specs.Rich.{richly}
-use Rattle.instructions.proofs.RichLaws.{enrich}
+use Rattle.operands.specs.Rich.{richly}
+use Rattle.operands.proofs.RichLaws.{enrich}
 use Rattle.blocks.proofs.BlockLaws.{lead-anew, body-tail, body-label, body-instruction, body-terminator, body-out}
 use borrow.Author.Needs.{needs}
 use Rattle.blocks.proofs.parse_body.Statement.{statement}
@@ -20,91 +22,64 @@ Inv-loop classes text words₀ q₀ label₀ n₀ over₀ left₀ words q label 
 abbrev μ-loop : tie.MeasureT-loop
 μ-loop classes text words₀ q₀ label₀ n₀ over₀ left₀ words q label n over left = left
 
--- src/lib.rt:125:5
 loop-holds : tie.Need-loop-holds Inv-loop μ-loop
 loop-holds c = (omega arith, enrich (stay (parseBody 16777217 0 0 0)), refl)
 
--- src/lib.rt:126:13
-eat-ws-requires : tie.Need-eat-ws-requires Inv-loop μ-loop
-eat-ws-requires c κs = search needs
-
--- src/lib.rt:127:12
-looks-requires : tie.Need-looks-requires Inv-loop μ-loop
-looks-requires c κs = search needs
-
--- src/lib.rt:128:17
-pass-requires : tie.Need-pass-requires Inv-loop μ-loop
-pass-requires c κs = search needs
-
--- src/lib.rt:129:13
 same-length : tie.Need-same-length Inv-loop μ-loop
 same-length c = c .before .before .before .before .before .loop .inv .2
 
--- src/lib.rt:129:13
 returns : tie.Need-returns Inv-loop μ-loop
 returns c = body-tail _ _ _ _ (c .before .before .before .before .before .loop .inv .1) (c .before .before .before .before .loop-test .taken) (c .before .before .before .eat-ws .ensures) (c .before .before .looks .ensures) (c .before .if1 .taken) (c .pass .ensures)
 
--- src/lib.rt:137:13
-parse-statement-requires : tie.Need-parse-statement-requires Inv-loop μ-loop
-parse-statement-requires c κs = search needs
-
--- src/lib.rt:61:18
-anew-requires : tie.Need-anew-requires Inv-loop μ-loop
-anew-requires c κs = search needs
-
--- src/lib.rt:143:13
 sub-left : tie.Need-sub-left Inv-loop μ-loop
 sub-left c = omega (arith, c .before .before .before .before .before .before .before .before .before .loop-test .taken)
 
--- src/lib.rt:125:5
 loop-less : tie.Need-loop-less Inv-loop μ-loop
 loop-less c = omega (arith, c .before .before .before .before .before .before .before .before .before .loop-test .taken)
 
--- src/lib.rt:125:5
 loop-again : tie.Need-loop-again Inv-loop μ-loop
-loop-again c = (omega (arith, c .before .before .before .before .before .before .before .before .before .before .loop .inv .0, c .before .before .before .before .before .before .before .before .before .loop-test .taken), body-label _ _ _ _ (c .before .before .before .before .before .before .before .before .before .before .loop .inv .1) (c .before .before .before .before .before .before .before .before .before .loop-test .taken) (c .before .before .before .before .before .before .before .before .eat-ws .ensures) (c .before .before .before .before .before .before .before .looks .ensures) (c .before .before .before .before .before .before .if1 .left) (lead-anew (c .before .anew .ensures) (c .before .before .before .before .parse-statement .ensures)) (c .if2 .taken), c .before .before .before .before .parse-statement .kept .1 .1 .0 ∙ c .before .before .before .before .before .before .before .before .before .before .loop .inv .2)
+loop-again c =
+    let c4 = c .before .before .before .before in
+    let c6 = c4 .before .before in
+    let c8 = c6 .before .before in
+    let c9 = c8 .before in
+    let c10 = c9 .before in
+    (omega (arith, c10 .loop .inv .0, c9 .loop-test .taken), body-label _ _ _ _ (c10 .loop .inv .1) (c9 .loop-test .taken) (c8 .eat-ws .ensures) (c6 .before .looks .ensures) (c6 .if1 .left) (lead-anew (c .before .anew .ensures) (c4 .parse-statement .ensures)) (c .if2 .taken), c4 .parse-statement .kept .1 .1 .0 ∙ c10 .loop .inv .2)
 
--- src/lib.rt:146:21
-place-requires : tie.Need-place-requires Inv-loop μ-loop
-place-requires c κs = search needs
-
--- src/lib.rt:148:17
-over-at-requires : tie.Need-over-at-requires Inv-loop μ-loop
-over-at-requires c κs = search needs
-
--- src/lib.rt:149:17
 add-n : tie.Need-add-n Inv-loop μ-loop
 add-n c = omega (arith, c .before .before .before .before .before .before .before .before .before .before .before .before .before .loop .inv .0)
 
--- src/lib.rt:150:17
 sub-left-2 : tie.Need-sub-left-2 Inv-loop μ-loop
 sub-left-2 c = omega (arith, c .before .before .before .before .before .before .before .before .before .before .before .before .loop-test .taken)
 
--- src/lib.rt:125:5
 loop-less-2 : tie.Need-loop-less-2 Inv-loop μ-loop
 loop-less-2 c = omega (arith, c .before .before .before .before .before .before .before .before .before .before .before .before .loop-test .taken)
 
--- src/lib.rt:125:5
 loop-again-2 : tie.Need-loop-again-2 Inv-loop μ-loop
-loop-again-2 c = (omega (arith, c .before .before .before .before .before .before .before .before .before .before .before .before .before .loop .inv .0, c .before .before .before .before .before .before .before .before .before .before .before .before .loop-test .taken), body-instruction _ _ _ _ (c .before .before .before .before .before .before .before .before .before .before .before .before .before .loop .inv .1) (c .before .before .before .before .before .before .before .before .before .before .before .before .loop-test .taken) (c .before .before .before .before .before .before .before .before .before .before .before .eat-ws .ensures) (c .before .before .before .before .before .before .before .before .before .before .looks .ensures) (c .before .before .before .before .before .before .before .before .before .if1 .left) (lead-anew (c .before .before .before .before .anew .ensures) (c .before .before .before .before .before .before .before .parse-statement .ensures)) _ _ (c .before .before .if3 .taken) (c .before .place .ensures) (c .over-at .ensures), c .before .before .before .before .before .before .before .parse-statement .kept .1 .1 .0 ∙ c .before .before .before .before .before .before .before .before .before .before .before .before .before .loop .inv .2)
+loop-again-2 c =
+    let c2 = c .before .before in
+    let c4 = c2 .before .before in
+    let c7 = c4 .before .before .before in
+    let c9 = c7 .before .before in
+    let c11 = c9 .before .before in
+    let c12 = c11 .before in
+    let c13 = c12 .before in
+    (omega (arith, c13 .loop .inv .0, c12 .loop-test .taken), body-instruction _ _ _ _ (c13 .loop .inv .1) (c12 .loop-test .taken) (c11 .eat-ws .ensures) (c9 .before .looks .ensures) (c9 .if1 .left) (lead-anew (c4 .anew .ensures) (c7 .parse-statement .ensures)) _ _ (c2 .if3 .taken) (c .before .place .ensures) (c .over-at .ensures), c7 .parse-statement .kept .1 .1 .0 ∙ c13 .loop .inv .2)
 
--- src/lib.rt:152:17
 same-length-2 : tie.Need-same-length-2 Inv-loop μ-loop
 same-length-2 c = c .before .before .before .before .before .parse-statement .kept .1 .1 .0 ∙ c .before .before .before .before .before .before .before .before .before .before .before .loop .inv .2
 
--- src/lib.rt:152:17
 returns-2 : tie.Need-returns-2 Inv-loop μ-loop
-returns-2 c = body-terminator _ _ _ _ (c .before .before .before .before .before .before .before .before .before .before .before .loop .inv .1) (c .before .before .before .before .before .before .before .before .before .before .loop-test .taken) (c .before .before .before .before .before .before .before .before .before .eat-ws .ensures) (c .before .before .before .before .before .before .before .before .looks .ensures) (c .before .before .before .before .before .before .before .if1 .left) (lead-anew (c .before .before .anew .ensures) (c .before .before .before .before .before .parse-statement .ensures)) (c .before .if2 .left) (c .if3 .left)
+returns-2 c =
+    let c2 = c .before .before in
+    let c5 = c2 .before .before .before in
+    let c7 = c5 .before .before in
+    let c9 = c7 .before .before in
+    body-terminator _ _ _ _ (c9 .before .before .loop .inv .1) (c9 .before .loop-test .taken) (c9 .eat-ws .ensures) (c7 .before .looks .ensures) (c7 .if1 .left) (lead-anew (c2 .anew .ensures) (c5 .parse-statement .ensures)) (c .before .if2 .left) (c .if3 .left)
 
--- src/lib.rt:162:9
-refuse-requires : tie.Need-refuse-requires Inv-loop μ-loop
-refuse-requires c κs = search needs
-
--- src/lib.rt:116:1
 same-length-3 : tie.Need-same-length-3 Inv-loop μ-loop
 same-length-3 c = c .before .before .loop .inv .2
 
--- src/lib.rt:116:1
 returns-3 : tie.Need-returns-3 Inv-loop μ-loop
 returns-3 c = body-out _ _ _ _ (c .before .before .loop .inv .1) (c .before .loop-test .left) (c .refuse .ensures)
 
@@ -115,24 +90,24 @@ parse-body-spec =
     Inv-loop
     μ-loop
     loop-holds
-    eat-ws-requires
-    looks-requires
-    pass-requires
+    (λ c κs. search needs)
+    (λ c κs. search needs)
+    (λ c κs. search needs)
     same-length
     returns
-    parse-statement-requires
-    anew-requires
+    (λ c κs. search needs)
+    (λ c κs. search needs)
     sub-left
     loop-less
     loop-again
-    place-requires
-    over-at-requires
+    (λ c κs. search needs)
+    (λ c κs. search needs)
     add-n
     sub-left-2
     loop-less-2
     loop-again-2
     same-length-2
     returns-2
-    refuse-requires
+    (λ c κs. search needs)
     same-length-3
     returns-3)

@@ -1,3 +1,4 @@
+-- The invariant: k words are copied; past the array's end there is nothing to store, so a copy that stops there is the whole copy.
 use mathlib.Core.Path.{_≡_, refl, _∙_}
 use Prim.Native.Nat.{_+_, _-_, _≤_}
 use native.Mathlib.Omega.{arith}
@@ -14,36 +15,33 @@ Inv-loop words₀ from to n room k₀ words k = (k ≤ n) × (words ≡ copied k
 abbrev μ-loop : tie.MeasureT-loop
 μ-loop words₀ from to n room k₀ words k = n - k
 
--- src/lib.rt:134:9
 returns : tie.Need-returns Inv-loop μ-loop
 returns c = λ h. absurd (omega arith)
 
--- src/lib.rt:138:5
 loop-holds : tie.Need-loop-holds Inv-loop μ-loop
 unfolding copied
 loop-holds c = (omega arith, refl, refl)
 
--- src/lib.rt:140:13
 same-length : tie.Need-same-length Inv-loop μ-loop
 same-length c = c .before .before .loop .inv .2
 
--- src/lib.rt:140:13
 returns-2 : tie.Need-returns-2 Inv-loop μ-loop
-returns-2 c = λ h. c .before .before .loop .inv .1 ∙ copied-out _ _ _ _ _ (c .before .before .loop .inv .0) (omega (arith, c .before .before .before .minus .ensures))
+returns-2 c =
+    λ h. c .before .before .loop .inv .1 ∙ copied-out _ _ _ _ _ (c .before .before .loop .inv .0)
+    (omega (arith, c .before .before .before .minus .ensures))
 
--- src/lib.rt:138:5
 loop-again : tie.Need-loop-again Inv-loop μ-loop
-loop-again c = (
-  omega arith,
-  rw (c .before .before .before .loop .inv .1) (copied-more (c .before .before .before .loop .k) (c .before .before .before .before .before .before .before .args .from) (c .before .before .before .before .before .before .before .args .to) (c .before .before .before .before .before .before .before .args .words .now)),
-  length-set (c .before .before .before .loop .words) (c .before .before .before .before .before .before .before .args .to + c .before .before .before .loop .k) (getD (c .before .before .before .loop .words) (c .before .before .before .before .before .before .before .args .from + c .before .before .before .loop .k) 0) ∙ c .before .before .before .loop .inv .2,
-)
+loop-again c =
+    let c3 = c .before .before .before in
+    let c7 = c3 .before .before .before .before in (
+      omega arith,
+      rw (c3 .loop .inv .1) (copied-more (c3 .loop .k) (c7 .args .from) (c7 .args .to) (c7 .args .words .now)),
+      length-set (c3 .loop .words) (c7 .args .to + c3 .loop .k) (getD (c3 .loop .words) (c7 .args .from + c3 .loop .k) 0) ∙ c3 .loop .inv .2,
+    )
 
--- src/lib.rt:130:1
 same-length-2 : tie.Need-same-length-2 Inv-loop μ-loop
 same-length-2 c = c .before .loop .inv .2
 
--- src/lib.rt:130:1
 returns-3 : tie.Need-returns-3 Inv-loop μ-loop
 returns-3 c = λ h. let e : c .before .loop .k ≡ c .before .before .before .before .before .args .n = omega arith in rw (← e) (c .before .loop .inv .1)
 

@@ -1,25 +1,55 @@
+-- The code's calls are the definition's steps in the same order; the name's slot is patched once the name is read, and stays 0 where none stands.
 use mathlib.Core.Path.{refl, _∙_}
 use mathlib.Core.List.{[], _∷_}
 use Rattle.grammar.specs.Body.{paramOf, parseParam}
-use Rattle.lexer.proofs.Laws.{val, byte-yes, byte-no, push-then, patch-then, close-is}
+use Rattle.lexer.proofs.Laws.{val, byte-yes, byte-no}
+use Rattle.writer.proofs.Laws.{push-then, patch-then, close-is}
 use Rattle.head.proofs.HeadLaws.{param-type, still-param}
 use borrow.Author.Needs.{needs}
 use Rattle.head.proofs.parse_param.Statement.{statement}
 use Rattle.head.proofs.parse_param.Tie as tie
 
--- src/lib.rt:33:9
 same-length : tie.Need-same-length
-same-length c = c .before .before .close .kept .0 ∙ c .before .before .before .before .before .before .patch .kept .0 ∙ c .before .before .before .before .before .before .before .before .before .before .before .before .before .before .before .before .parse-type .kept .1 .1 .0 ∙ c .before .before .before .before .before .before .before .before .before .before .before .before .before .before .before .before .before .before .before .before .push2 .kept .0 ∙ c .before .before .before .before .before .before .before .before .before .before .before .before .before .before .before .before .before .before .before .before .before .before .before .before .push .kept .0
+same-length c =
+    let c2 = c .before .before in
+    let c6 = c2 .before .before .before .before in
+    let c16 = c6 .before .before .before .before .before .before .before .before .before .before in
+    let c20 = c16 .before .before .before .before in
+    c2 .close .kept .0 ∙ c6 .patch .kept .0 ∙ c16 .parse-type .kept .1 .1 .0 ∙ c20 .push2 .kept .0 ∙ c20 .before .before .before .before .push .kept .0
 
--- src/lib.rt:33:9
 returns : tie.Need-returns
 unfolding parseParam paramOf
-returns c = λ q. push-then _ (c .before .before .before .before .before .before .before .before .before .before .before .before .before .before .before .before .before .before .before .before .before .before .before .before .push .ensures) (push-then _ (c .before .before .before .before .before .before .before .before .before .before .before .before .before .before .before .before .before .before .before .before .push2 .ensures) (param-type q _ (c .before .before .before .before .before .before .before .before .before .before .before .before .before .before .before .before .parse-type .ensures) still-param (λ t. val _ (c .before .before .before .before .before .before .before .before .before .before .before .before .before .skip-attrs .ensures) (val _ (c .before .before .before .before .before .before .before .before .before .before .before .before .eat-ws .ensures) (byte-yes _ _ (c .before .before .before .before .before .before .before .before .before .before .before .looks .ensures) (c .before .before .before .before .before .before .before .before .before .before .if1 .taken) (c .before .before .before .before .before .before .before .before .before .pass .ensures) (val _ (c .before .before .before .before .before .before .before .before .name-word .ensures) (patch-then 1 _ (0 ∷ []) 0 t refl (c .before .before .before .before .before .before .patch .ensures) (close-is _ _ _ _ (c .before .before .close .ensures)))))))))
+returns c =
+    let c2 = c .before .before in
+    let c6 = c2 .before .before .before .before in
+    let c8 = c6 .before .before in
+    let c10 = c8 .before .before in
+    let c12 = c10 .before .before in
+    let c16 = c12 .before .before .before .before in
+    let c20 = c16 .before .before .before .before in
+    λ q. push-then _ (c20 .before .before .before .before .push .ensures)
+    (push-then _ (c20 .push2 .ensures)
+    (param-type q _ (c16 .parse-type .ensures) still-param
+    (λ t. val _ (c12 .before .skip-attrs .ensures)
+    (val _ (c12 .eat-ws .ensures)
+    (byte-yes _ _ (c10 .before .looks .ensures) (c10 .if1 .taken) (c8 .before .pass .ensures)
+    (val _ (c8 .name-word .ensures)
+    (patch-then 1 _ (0 ∷ []) 0 t refl (c6 .patch .ensures) (close-is _ _ _ _ (c2 .close .ensures)))))))))
 
--- src/lib.rt:19:1
 returns-2 : tie.Need-returns-2
 unfolding parseParam paramOf
-returns-2 c = λ q. push-then _ (c .before .before .before .before .before .before .before .before .before .before .before .before .before .before .before .before .before .before .push .ensures) (push-then _ (c .before .before .before .before .before .before .before .before .before .before .before .before .before .before .push2 .ensures) (param-type q _ (c .before .before .before .before .before .before .before .before .before .before .parse-type .ensures) still-param (λ t. val _ (c .before .before .before .before .before .before .before .skip-attrs .ensures) (val _ (c .before .before .before .before .before .before .eat-ws .ensures) (byte-no _ _ (c .before .before .before .before .before .looks .ensures) (c .before .before .before .before .if1 .left) (close-is _ _ _ _ (c .before .before .close2 .ensures)))))))
+returns-2 c =
+    let c2 = c .before .before in
+    let c4 = c2 .before .before in
+    let c6 = c4 .before .before in
+    let c10 = c6 .before .before .before .before in
+    let c14 = c10 .before .before .before .before in
+    λ q. push-then _ (c14 .before .before .before .before .push .ensures)
+    (push-then _ (c14 .push2 .ensures)
+    (param-type q _ (c10 .parse-type .ensures) still-param
+    (λ t. val _ (c6 .before .skip-attrs .ensures)
+    (val _ (c6 .eat-ws .ensures)
+    (byte-no _ _ (c4 .before .looks .ensures) (c4 .if1 .left) (close-is _ _ _ _ (c2 .close2 .ensures)))))))
 
 pub parse-param-spec : {M : Type 1} → statement M
 parse-param-spec =

@@ -1,12 +1,11 @@
+-- Case by case, the answer is that of `pieceOf`.
 use borrow.Author.Needs.{needs}
 use Rattle.head.proofs.piece_of.Statement.{statement}
 use Rattle.head.proofs.piece_of.Tie as tie
 
--- src/lib.rt:142:1
 returns : tie.Need-returns
 returns c = rw (c .before .p .given .1)
 
--- src/lib.rt:142:1
 returns-2 : tie.Need-returns-2
 returns-2 c = rw (c .before .p2 .given .1)
 

@@ -1,3 +1,4 @@
+-- Case by case, the answer is made of its own parts.
 use borrow.Author.Needs.{needs}
 use Rattle.lexer.proofs.anew.Statement.{statement}
 use Rattle.lexer.proofs.anew.Tie as tie

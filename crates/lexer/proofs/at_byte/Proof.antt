@@ -1,3 +1,4 @@
+-- Inside the text the byte at a place is the first of what is left there; behind its end stands 256, which is no byte.
 use mathlib.Core.Path.{sym}
 use Rattle.lexer.proofs.Scan.{byte-in, byte-out}
 use borrow.Author.Needs.{needs}

@@ -1,3 +1,4 @@
+-- The table's rule, at the byte.
 use borrow.Author.Needs.{needs}
 use Rattle.lexer.proofs.class.Statement.{statement}
 use Rattle.lexer.proofs.class.Tie as tie

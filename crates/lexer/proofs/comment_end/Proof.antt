@@ -1,3 +1,4 @@
+-- The invariant: what the automaton passes from `at` on ends where it ends from i on in state q.
 use mathlib.Core.Path.{_≡_, refl, sym, _∙_}
 use Prim.Native.Nat.{_+_, _-_}
 use lib.ListN.{length, drop}
@@ -15,10 +16,15 @@ abbrev μ-loop : tie.MeasureT-loop
 μ-loop classes text at i₀ q₀ i q = length text - i
 
 returns : tie.Need-returns Inv-loop μ-loop
-returns c = sym (c .before .before .before .before .loop .inv ∙ scan-stop spaceStep _ _ _ (c .before .before .before .loop-test .taken) (sym (c .before .space-step .ensures) ∙ c .if1 .taken))
+returns c =
+    sym
+    (c .before .before .before .before .loop .inv ∙ scan-stop spaceStep _ _ _ (c .before .before .before .loop-test .taken)
+    (sym (c .before .space-step .ensures) ∙ c .if1 .taken))
 
 loop-again : tie.Need-loop-again Inv-loop μ-loop
-loop-again c = c .before .before .before .before .loop .inv ∙ scan-more spaceStep _ _ (c .before .before .before .before .loop .q) _ (c .before .before .before .loop-test .taken) (c .before .space-step .ensures) (c .if1 .left)
+loop-again c =
+    let c3 = c .before .before .before in
+    c3 .before .loop .inv ∙ scan-more spaceStep _ _ (c3 .before .loop .q) _ (c3 .loop-test .taken) (c .before .space-step .ensures) (c .if1 .left)
 
 returns-2 : tie.Need-returns-2 Inv-loop μ-loop
 returns-2 c = sym (c .before .loop .inv ∙ scan-out spaceStep _ _ _ (c .loop-test .left))

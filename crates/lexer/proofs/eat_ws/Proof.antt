@@ -1,3 +1,4 @@
+-- White space is one scan, and `space_end` is the place where it stops.
 use Rattle.grammar.specs.Lexer.{eatWs}
 use Rattle.program.specs.Prog.{run}
 use Rattle.lexer.proofs.Laws.{given, kept}

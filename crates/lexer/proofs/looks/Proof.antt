@@ -1,3 +1,4 @@
+-- At a cursor by `at_byte`; a refusal looks at nothing.
 use borrow.Author.Needs.{needs}
 use Rattle.lexer.proofs.looks.Statement.{statement}
 use Rattle.lexer.proofs.looks.Tie as tie

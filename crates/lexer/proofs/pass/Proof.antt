@@ -1,13 +1,18 @@
+-- The two tests are those of `passed`.
 use borrow.Author.Tests.{le-leb, lt-leb}
 use borrow.Author.Needs.{needs}
 use Rattle.lexer.proofs.pass.Statement.{statement}
 use Rattle.lexer.proofs.pass.Tie as tie
 
 returns : tie.Need-returns
-returns c = rw (c .before .before .before .p .given .1, le-leb _ _ (c .before .if1 .taken), le-leb _ _ (c .if2 .taken))
+returns c =
+    rw
+    (c .before .before .before .p .given .1, le-leb _ _ (c .before .if1 .taken), le-leb _ _ (c .if2 .taken))
 
 returns-2 : tie.Need-returns-2
-returns-2 c = rw (c .before .before .before .p .given .1, le-leb _ _ (c .before .if1 .taken), lt-leb _ _ (c .if2 .left))
+returns-2 c =
+    rw
+    (c .before .before .before .p .given .1, le-leb _ _ (c .before .if1 .taken), lt-leb _ _ (c .if2 .left))
 
 returns-3 : tie.Need-returns-3
 returns-3 c = rw (c .before .before .p .given .1, lt-leb _ _ (c .if1 .left))

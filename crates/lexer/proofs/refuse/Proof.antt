@@ -1,3 +1,4 @@
+-- By the answer so far.
 use borrow.Author.Needs.{needs}
 use Rattle.lexer.proofs.refuse.Statement.{statement}
 use Rattle.lexer.proofs.refuse.Tie as tie

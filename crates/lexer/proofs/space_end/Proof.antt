@@ -1,10 +1,11 @@
+-- The invariant: white space at `at` ends where white space at i ends; at a `;` `comment_end` goes on.
 use mathlib.Core.Path.{_≡_, refl, sym, _∙_}
 use Prim.Native.Nat.{_+_, _-_}
 use lib.ListN.{length, drop}
 use Rattle.program.specs.Prog.{scanLen}
 use Rattle.grammar.specs.Lexer.{spaceStep}
 use Rattle.lexer.proofs.Scan.{scan-out}
-use Rattle.lexer.proofs.Strings.{space-more, space-stop}
+use Rattle.lexer.proofs.Scan.{space-more, space-stop}
 use borrow.Author.Needs.{needs}
 use Rattle.lexer.proofs.space_end.Statement.{statement}
 use Rattle.lexer.proofs.space_end.Tie as tie
@@ -19,7 +20,9 @@ returns : tie.Need-returns Inv-loop μ-loop
 returns c = sym (c .before .before .before .before .before .before .loop .inv ∙ sym (c .comment-end .ensures))
 
 returns-2 : tie.Need-returns-2 Inv-loop μ-loop
-returns-2 c = sym (c .before .before .before .before .before .loop .inv ∙ space-stop _ _ _ (c .before .before .before .before .loop-test .taken) (c .before .before .class .ensures) (c .before .if1 .taken) (c .if2 .left))
+returns-2 c =
+    sym
+    (c .before .before .before .before .before .loop .inv ∙ space-stop _ _ _ (c .before .before .before .before .loop-test .taken) (c .before .before .class .ensures) (c .before .if1 .taken) (c .if2 .left))
 
 loop-again : tie.Need-loop-again Inv-loop μ-loop
 loop-again c = c .before .before .before .before .loop .inv ∙ space-more _ _ _ (c .before .before .before .loop-test .taken) (c .before .class .ensures) (c .if1 .left)

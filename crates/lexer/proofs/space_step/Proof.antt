@@ -1,3 +1,4 @@
+-- The tests of `spaceStep` in their order.
 use borrow.Author.Tests.{eq-eqb, ne-eqb}
 use Rattle.program.specs.Class.{isSpace}
 use Rattle.grammar.specs.Lexer.{spaceStep}
@@ -11,11 +12,15 @@ returns c = rw (eq-eqb _ _ (c .before .if1 .taken), eq-eqb _ _ (c .if2 .taken))
 
 returns-2 : tie.Need-returns-2
 unfolding spaceStep isSpace
-returns-2 c = rw (eq-eqb _ _ (c .before .before .before .if1 .taken), ne-eqb _ _ (c .before .before .if2 .left), ← c .before .class .ensures, eq-eqb _ _ (c .if3 .taken))
+returns-2 c =
+    rw
+    (eq-eqb _ _ (c .before .before .before .if1 .taken), ne-eqb _ _ (c .before .before .if2 .left), ← c .before .class .ensures, eq-eqb _ _ (c .if3 .taken))
 
 returns-3 : tie.Need-returns-3
 unfolding spaceStep isSpace
-returns-3 c = rw (eq-eqb _ _ (c .before .before .before .if1 .taken), ne-eqb _ _ (c .before .before .if2 .left), ← c .before .class .ensures, ne-eqb _ _ (c .if3 .left))
+returns-3 c =
+    rw
+    (eq-eqb _ _ (c .before .before .before .if1 .taken), ne-eqb _ _ (c .before .before .if2 .left), ← c .before .class .ensures, ne-eqb _ _ (c .if3 .left))
 
 returns-4 : tie.Need-returns-4
 unfolding spaceStep

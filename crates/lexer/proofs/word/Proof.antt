@@ -1,3 +1,4 @@
+-- At a cursor by `at_word`; a refusal has no word.
 use borrow.Author.Needs.{needs}
 use Rattle.lexer.proofs.word.Statement.{statement}
 use Rattle.lexer.proofs.word.Tie as tie

@@ -1,23 +1,16 @@
+-- Zeros from 0 on are an array of zeros.
 use mathlib.Core.Path.{_∙_}
 use Rattle.directory.proofs.Final.{cleared}
 use borrow.Author.Needs.{needs}
 use Rattle.reading.proofs.wipe.Statement.{statement}
 use Rattle.reading.proofs.wipe.Tie as tie
 
-clear-requires : tie.Need-clear-requires
-clear-requires c κs = search needs
-
-clear-requires-2 : tie.Need-clear-requires-2
-clear-requires-2 c κs = search needs
-
-same-length : tie.Need-same-length
-same-length c = search needs
-
-same-length-2 : tie.Need-same-length-2
-same-length-2 c = search needs
-
 returns : tie.Need-returns
-returns c = (c .before .before .before .before .before .before .clear .ensures ∙ cleared (c .before .before .before .before .before .before .before .before .before .before .args .words .now), c .before .before .clear2 .ensures ∙ cleared (c .before .before .before .before .before .before .before .before .before .before .args .directory .now))
+returns c =
+    let c2 = c .before .before in
+    let c6 = c2 .before .before .before .before in
+    let c10 = c6 .before .before .before .before in
+    (c6 .clear .ensures ∙ cleared (c10 .args .words .now), c2 .clear2 .ensures ∙ cleared (c10 .args .directory .now))
 
 pub wipe-spec : {M : Type 1} → statement M
-wipe-spec = tie.close (tie.spec clear-requires clear-requires-2 same-length same-length-2 returns)
+wipe-spec = tie.close (tie.spec (λ c κs. search needs) (λ c κs. search needs) (λ c. search needs) (λ c. search needs) returns)

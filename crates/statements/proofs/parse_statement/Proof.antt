@@ -1,3 +1,4 @@
+-- The definition asks for the same `%`; behind it an instruction stands, and else a statement that begins with a word.
 use Rattle.grammar.specs.Body.{parseStatement}
 use Rattle.lexer.proofs.Laws.{byte-yes, byte-no}
 use Rattle.statements.proofs.StatementLaws.{call-instruction}
@@ -5,36 +6,13 @@ use borrow.Author.Needs.{needs}
 use Rattle.statements.proofs.parse_statement.Statement.{statement}
 use Rattle.statements.proofs.parse_statement.Tie as tie
 
--- src/lib.rt:96:8
-looks-requires : tie.Need-looks-requires
-looks-requires c κs = search needs
-
--- src/lib.rt:97:13
-pass-requires : tie.Need-pass-requires
-pass-requires c κs = search needs
-
--- src/lib.rt:98:13
-parse-inst-requires : tie.Need-parse-inst-requires
-parse-inst-requires c κs = search needs
-
--- src/lib.rt:99:9
-same-length : tie.Need-same-length
-same-length c = search needs
-
--- src/lib.rt:99:9
 returns : tie.Need-returns
 unfolding parseStatement
-returns c = byte-yes _ _ (c .before .before .before .before .before .before .looks .ensures) (c .before .before .before .before .before .if1 .taken) (c .before .before .before .before .pass .ensures) (call-instruction _ (c .before .before .parse-inst .ensures))
+returns c =
+    let c2 = c .before .before in
+    let c4 = c2 .before .before in
+    byte-yes _ _ (c4 .before .before .looks .ensures) (c4 .before .if1 .taken) (c4 .pass .ensures) (call-instruction _ (c2 .parse-inst .ensures))
 
--- src/lib.rt:105:5
-word-statement-requires : tie.Need-word-statement-requires
-word-statement-requires c κs = search needs
-
--- src/lib.rt:92:1
-same-length-2 : tie.Need-same-length-2
-same-length-2 c = search needs
-
--- src/lib.rt:92:1
 returns-2 : tie.Need-returns-2
 unfolding parseStatement
 returns-2 c = byte-no _ _ (c .before .before .before .before .before .looks .ensures) (c .before .before .before .before .if1 .left) (c .before .before .word-statement .ensures)
@@ -43,11 +21,11 @@ pub parse-statement-spec : {M : Type 1} → statement M
 parse-statement-spec =
     tie.close
     (tie.spec
-    looks-requires
-    pass-requires
-    parse-inst-requires
-    same-length
+    (λ c κs. search needs)
+    (λ c κs. search needs)
+    (λ c κs. search needs)
+    (λ c. search needs)
     returns
-    word-statement-requires
-    same-length-2
+    (λ c κs. search needs)
+    (λ c. search needs)
     returns-2)

@@ -1,3 +1,4 @@
+-- The table's words, cut by their lengths, are those of the definition, and a rank below their number is a hit.
 use mathlib.Core.Path.{sym}
 use Rattle.grammar.specs.Values.{convOps}
 use Rattle.lexer.specs.Table.{cut}
@@ -5,32 +6,11 @@ use Rattle.lexer.proofs.Laws.{true-false}
 use borrow.Author.Needs.{needs}
 use Rattle.values.proofs.match_conv_op.Statement.{statement}
 use Rattle.values.proofs.match_conv_op.Tie as tie
-use Rattle.values.proofs.match_conv_op.Reads as reads
-use Rattle.values.proofs.match_conv_op.Lts as lts
-use Rattle.lexer.proofs.match_rank.Reads as match-rank-reads
 
--- src/lib.rt:38:49
-slice-aggregate-match-rank : tie.Need-slice-aggregate-match-rank
-slice-aggregate-match-rank c = search needs
-
--- src/lib.rt:38:56
-slice-aggregate-match-rank-2 : tie.Need-slice-aggregate-match-rank-2
-slice-aggregate-match-rank-2 c = search needs
-
--- src/lib.rt:38:9
-match-rank-requires : tie.Need-match-rank-requires
-match-rank-requires c κs = search needs
-
--- src/lib.rt:42:32
-cast-t14 : tie.Need-cast-t14
-cast-t14 c = search needs
-
--- src/lib.rt:42:9
 returns : tie.Need-returns
 unfolding convOps cut
 returns c = record { yes = λ e. (c .if1 .taken, c .before .match-rank .ensures); no = λ e. true-false (sym e) }
 
--- src/lib.rt:33:1
 returns-2 : tie.Need-returns-2
 unfolding convOps cut
 returns-2 c = record { yes = λ e. true-false e; no = λ e. (_, c .if1 .left, c .before .match-rank .ensures) }
@@ -39,9 +19,9 @@ pub match-conv-op-spec : {M : Type 1} → statement M
 match-conv-op-spec =
     tie.close
     (tie.spec
-    slice-aggregate-match-rank
-    slice-aggregate-match-rank-2
-    match-rank-requires
-    cast-t14
+    (λ c. search needs)
+    (λ c. search needs)
+    (λ c κs. search needs)
+    (λ c. search needs)
     returns
     returns-2)

@@ -1,3 +1,4 @@
+-- The invariant: the first i words are copied; the word read next lies behind all that was written.
 use mathlib.Core.Path.{_≡_, refl, _∙_}
 use Prim.Native.Nat.{_+_, _-_, _≤_}
 use native.Mathlib.Omega.{arith}
@@ -17,36 +18,14 @@ abbrev μ-loop : tie.MeasureT-loop
 loop-holds : tie.Need-loop-holds Inv-loop μ-loop
 loop-holds c = (omega arith, paste-zero (c .args .words .now) (c .args .to) (drop (c .args .from) (c .args .words .now)), refl)
 
-add-w : tie.Need-add-w Inv-loop μ-loop
-add-w c = search needs
-
-mul-w : tie.Need-mul-w Inv-loop μ-loop
-mul-w c = search needs
-
-slice-read-w : tie.Need-slice-read-w Inv-loop μ-loop
-slice-read-w c = search needs
-
-add-words : tie.Need-add-words Inv-loop μ-loop
-add-words c = search needs
-
-mul-words : tie.Need-mul-words Inv-loop μ-loop
-mul-words c = search needs
-
-slice-write-words : tie.Need-slice-write-words Inv-loop μ-loop
-slice-write-words c = search needs
-
-add-i : tie.Need-add-i Inv-loop μ-loop
-add-i c = search needs
-
-loop-less : tie.Need-loop-less Inv-loop μ-loop
-loop-less c = search needs
-
 loop-again : tie.Need-loop-again Inv-loop μ-loop
-loop-again c = (
-  omega arith,
-  rw (c .before .before .loop .inv .1) (left-more (c .before .before .before .args .words .now) (c .before .before .before .args .from) (c .before .before .before .args .to) (c .before .before .loop .i) (omega arith) (omega arith)),
-  length-set (c .before .before .loop .words) (c .before .before .before .args .to + c .before .before .loop .i) (getD (c .before .before .loop .words) (c .before .before .before .args .from + c .before .before .loop .i) 0) ∙ c .before .before .loop .inv .2,
-)
+loop-again c =
+    let c2 = c .before .before in
+    let c3 = c2 .before in (
+      omega arith,
+      rw (c2 .loop .inv .1) (left-more (c3 .args .words .now) (c3 .args .from) (c3 .args .to) (c2 .loop .i) (omega arith) (omega arith)),
+      length-set (c2 .loop .words) (c3 .args .to + c2 .loop .i) (getD (c2 .loop .words) (c3 .args .from + c2 .loop .i) 0) ∙ c2 .loop .inv .2,
+    )
 
 same-length : tie.Need-same-length Inv-loop μ-loop
 same-length c = c .before .loop .inv .2
@@ -61,14 +40,14 @@ move-left-spec =
     Inv-loop
     μ-loop
     loop-holds
-    add-w
-    mul-w
-    slice-read-w
-    add-words
-    mul-words
-    slice-write-words
-    add-i
-    loop-less
+    (λ c. search needs)
+    (λ c. search needs)
+    (λ c. search needs)
+    (λ c. search needs)
+    (λ c. search needs)
+    (λ c. search needs)
+    (λ c. search needs)
+    (λ c. search needs)
     loop-again
     same-length
     returns)

@@ -1,3 +1,4 @@
+-- The direction is chosen so that no word is read after it was written; where both places are one nothing moves.
 use mathlib.Core.Path.{_≡_}
 use native.Mathlib.Omega.{arith}
 use Rattle.directory.proofs.Stores.{stays}
@@ -5,35 +6,19 @@ use borrow.Author.Needs.{needs}
 use Rattle.directory.proofs.arrays.move_words.Statement.{statement}
 use Rattle.directory.proofs.arrays.move_words.Tie as tie
 
-move-left-requires : tie.Need-move-left-requires
-move-left-requires c κs = search needs
-
-same-length : tie.Need-same-length
-same-length c = search needs
-
-returns : tie.Need-returns
-returns c = search needs
-
-move-right-requires : tie.Need-move-right-requires
-move-right-requires c κs = search needs
-
-same-length-2 : tie.Need-same-length-2
-same-length-2 c = search needs
-
-returns-2 : tie.Need-returns-2
-returns-2 c = search needs
-
 returns-3 : tie.Need-returns-3
-returns-3 c = let e : c .before .before .before .args .from ≡ c .before .before .before .args .to = omega arith in rw e (stays (c .before .before .before .args .words .now) (c .before .before .before .args .to) (c .before .before .before .args .n))
+returns-3 c =
+    let c3 = c .before .before .before in
+    let e : c .before .before .before .args .from ≡ c3 .args .to = omega arith in rw e (stays (c3 .args .words .now) (c3 .args .to) (c3 .args .n))
 
 pub move-words-spec : {M : Type 1} → statement M
 move-words-spec =
     tie.close
     (tie.spec
-    move-left-requires
-    same-length
-    returns
-    move-right-requires
-    same-length-2
-    returns-2
+    (λ c κs. search needs)
+    (λ c. search needs)
+    (λ c. search needs)
+    (λ c κs. search needs)
+    (λ c. search needs)
+    (λ c. search needs)
     returns-3)

@@ -1,3 +1,4 @@
+-- The invariant: k entries are moved, and pos and word are where the next starts; sums stay below 2^32 as the last does.
 use mathlib.Core.Path.{_≡_}
 use Prim.Native.Nat.{_-_}
 use native.Mathlib.Omega.{arith}
@@ -7,61 +8,53 @@ use Rattle.directory.proofs.arrays.renumber.Statement.{statement}
 use Rattle.directory.proofs.arrays.renumber.Tie as tie
 
 abbrev Inv-loop : tie.InvT-loop
-Inv-loop directory₀ i n pos at k₀ place₀ first₀ directory k place first = Renumbering directory₀ i n pos at k place first directory
+Inv-loop directory₀ spot n k₀ pos₀ word₀ directory k pos word = Renumbering directory₀ (spot .number) n (spot .pos) (spot .word) k pos word directory
 
 abbrev μ-loop : tie.MeasureT-loop
-μ-loop directory₀ i n pos at k₀ place₀ first₀ directory k place first = n - k
+μ-loop directory₀ spot n k₀ pos₀ word₀ directory k pos word = n - k
 
 loop-holds : tie.Need-loop-holds Inv-loop μ-loop
-loop-holds c = renumber-first (c .before .args .directory .now) (c .before .args .i) (c .before .args .n) (c .before .args .pos) (c .before .args .at)
-
-add-e : tie.Need-add-e Inv-loop μ-loop
-add-e c = search needs
-
-mul-e : tie.Need-mul-e Inv-loop μ-loop
-mul-e c = search needs
-
-mul-e-2 : tie.Need-mul-e-2 Inv-loop μ-loop
-mul-e-2 c = search needs
-
-slice-read-e : tie.Need-slice-read-e Inv-loop μ-loop
-slice-read-e c = search needs
-
-add-m : tie.Need-add-m Inv-loop μ-loop
-add-m c = search needs
-
-mul-m : tie.Need-mul-m Inv-loop μ-loop
-mul-m c = search needs
-
-add-m-2 : tie.Need-add-m-2 Inv-loop μ-loop
-add-m-2 c = search needs
-
-mul-m-2 : tie.Need-mul-m-2 Inv-loop μ-loop
-mul-m-2 c = search needs
-
-slice-read-m : tie.Need-slice-read-m Inv-loop μ-loop
-slice-read-m c = search needs
-
-add-put-entry : tie.Need-add-put-entry Inv-loop μ-loop
-add-put-entry c = search needs
+loop-holds c = renumber-first (c .before .args .directory .now) (c .before .args .spot .number) (c .before .args .n) (c .before .args .spot .pos) (c .before .args .spot .word)
 
 put-entry-requires : tie.Need-put-entry-requires Inv-loop μ-loop
-put-entry-requires c κs = (omega (arith, c .before .before .before .before .loop .inv .long), (omega (arith, place-ends (c .before .before .before .before .before .before .args .directory .now) (c .before .before .before .before .before .before .args .i) (c .before .before .before .before .before .before .args .n) (c .before .before .before .before .before .before .args .pos) (c .before .before .before .before .before .before .args .at) (c .before .before .before .before .before .before .pre .0) (c .before .before .before .before .loop .k) (c .before .before .before .before .loop .place) (c .before .before .before .before .loop .first) (c .before .before .before .before .loop .directory) (c .before .before .before .before .loop .inv) (c .before .before .before .loop-test .taken)), omega arith, omega (arith, first-ends (c .before .before .before .before .before .before .args .directory .now) (c .before .before .before .before .before .before .args .i) (c .before .before .before .before .before .before .args .n) (c .before .before .before .before .before .before .args .pos) (c .before .before .before .before .before .before .args .at) (c .before .before .before .before .before .before .pre .0) (c .before .before .before .before .loop .k) (c .before .before .before .before .loop .place) (c .before .before .before .before .loop .first) (c .before .before .before .before .loop .directory) (c .before .before .before .before .loop .inv) (c .before .before .before .loop-test .taken)), omega arith))
+put-entry-requires c κs =
+    let c4 = c .before .before .before .before in
+    let c5 = c4 .before in
+    let c7 = c5 .before .before in (
+      omega (arith, c5 .loop .inv .long),
+      (
+        omega
+            (arith, place-ends (c7 .args .directory .now) (c7 .args .spot .number) (c7 .args .n) (c7 .args .spot .pos) (c7 .args .spot .word) (c7 .pre .0) (c5 .loop .k) (c5 .loop .pos) (c5 .loop .word) (c5 .loop .directory) (c5 .loop .inv) (c4 .loop-test .taken)),
+        omega arith,
+        omega
+            (arith, first-ends (c7 .args .directory .now) (c7 .args .spot .number) (c7 .args .n) (c7 .args .spot .pos) (c7 .args .spot .word) (c7 .pre .0) (c5 .loop .k) (c5 .loop .pos) (c5 .loop .word) (c5 .loop .directory) (c5 .loop .inv) (c4 .loop-test .taken)),
+        omega arith,
+      ),
+    )
 
-add-place : tie.Need-add-place Inv-loop μ-loop
-add-place c = omega (arith, place-ends (c .before .before .before .before .before .before .before .before .before .args .directory .now) (c .before .before .before .before .before .before .before .before .before .args .i) (c .before .before .before .before .before .before .before .before .before .args .n) (c .before .before .before .before .before .before .before .before .before .args .pos) (c .before .before .before .before .before .before .before .before .before .args .at) (c .before .before .before .before .before .before .before .before .before .pre .0) (c .before .before .before .before .before .before .before .loop .k) (c .before .before .before .before .before .before .before .loop .place) (c .before .before .before .before .before .before .before .loop .first) (c .before .before .before .before .before .before .before .loop .directory) (c .before .before .before .before .before .before .before .loop .inv) (c .before .before .before .before .before .before .loop-test .taken))
+add-pos : tie.Need-add-pos Inv-loop μ-loop
+add-pos c =
+    let c7 = c .before .before .before .before .before .before .before in
+    let c8 = c7 .before in
+    let c10 = c8 .before .before in
+    omega
+    (arith, place-ends (c10 .args .directory .now) (c10 .args .spot .number) (c10 .args .n) (c10 .args .spot .pos) (c10 .args .spot .word) (c10 .pre .0) (c8 .loop .k) (c8 .loop .pos) (c8 .loop .word) (c8 .loop .directory) (c8 .loop .inv) (c7 .loop-test .taken))
 
-add-first : tie.Need-add-first Inv-loop μ-loop
-add-first c = omega (arith, first-ends (c .before .before .before .before .before .before .before .before .before .args .directory .now) (c .before .before .before .before .before .before .before .before .before .args .i) (c .before .before .before .before .before .before .before .before .before .args .n) (c .before .before .before .before .before .before .before .before .before .args .pos) (c .before .before .before .before .before .before .before .before .before .args .at) (c .before .before .before .before .before .before .before .before .before .pre .0) (c .before .before .before .before .before .before .before .loop .k) (c .before .before .before .before .before .before .before .loop .place) (c .before .before .before .before .before .before .before .loop .first) (c .before .before .before .before .before .before .before .loop .directory) (c .before .before .before .before .before .before .before .loop .inv) (c .before .before .before .before .before .before .loop-test .taken))
-
-add-k : tie.Need-add-k Inv-loop μ-loop
-add-k c = search needs
-
-loop-less : tie.Need-loop-less Inv-loop μ-loop
-loop-less c = search needs
+add-word : tie.Need-add-word Inv-loop μ-loop
+add-word c =
+    let c7 = c .before .before .before .before .before .before .before in
+    let c8 = c7 .before in
+    let c10 = c8 .before .before in
+    omega
+    (arith, first-ends (c10 .args .directory .now) (c10 .args .spot .number) (c10 .args .n) (c10 .args .spot .pos) (c10 .args .spot .word) (c10 .pre .0) (c8 .loop .k) (c8 .loop .pos) (c8 .loop .word) (c8 .loop .directory) (c8 .loop .inv) (c7 .loop-test .taken))
 
 loop-again : tie.Need-loop-again Inv-loop μ-loop
-loop-again c = renumber-next (c .before .before .before .before .before .before .before .before .before .args .directory .now) (c .before .before .before .before .before .before .before .before .before .args .i) (c .before .before .before .before .before .before .before .before .before .args .n) (c .before .before .before .before .before .before .before .before .before .args .pos) (c .before .before .before .before .before .before .before .before .before .args .at) (c .before .before .before .before .before .before .before .before .before .pre .0) (c .before .before .before .before .before .before .before .loop .k) (c .before .before .before .before .before .before .before .loop .place) (c .before .before .before .before .before .before .before .loop .first) (c .before .before .before .before .before .before .before .loop .directory) (c .before .before .before .before .before .before .before .loop .inv) (c .before .before .before .before .before .before .loop-test .taken) (c .before .before .put-entry .last .0) (c .before .before .put-entry .ensures)
+loop-again c =
+    let c2 = c .before .before in
+    let c7 = c2 .before .before .before .before .before in
+    let c8 = c7 .before in
+    let c10 = c8 .before .before in
+    renumber-next (c10 .args .directory .now) (c10 .args .spot .number) (c10 .args .n) (c10 .args .spot .pos) (c10 .args .spot .word) (c10 .pre .0) (c8 .loop .k) (c8 .loop .pos) (c8 .loop .word) (c8 .loop .directory) (c8 .loop .inv) (c7 .loop-test .taken) (c2 .put-entry .last .0) (c2 .put-entry .ensures)
 
 same-length : tie.Need-same-length Inv-loop μ-loop
 same-length c = c .before .loop .inv .long
@@ -76,21 +69,19 @@ renumber-spec =
     Inv-loop
     μ-loop
     loop-holds
-    add-e
-    mul-e
-    mul-e-2
-    slice-read-e
-    add-m
-    mul-m
-    add-m-2
-    mul-m-2
-    slice-read-m
-    add-put-entry
+    (λ c. search needs)
+    (λ c. search needs)
+    (λ c. search needs)
+    (λ c. search needs)
+    (λ c. search needs)
+    (λ c. search needs)
+    (λ c. search needs)
+    (λ c. search needs)
     put-entry-requires
-    add-place
-    add-first
-    add-k
-    loop-less
+    add-pos
+    add-word
+    (λ c. search needs)
+    (λ c. search needs)
     loop-again
     same-length
     returns)

@@ -1,3 +1,4 @@
+-- The invariant: the first k bytes are those of `addrspace`; fewer than 10 bytes have none behind the word.
 use mathlib.Core.Path.{sym, ap, _∙_}
 use mathlib.Core.Bool.{not}
 use Prim.Native.Nat.{_-_, _≤_}
@@ -15,52 +16,47 @@ Inv-loop text a p word k₀ k = (h : a ≤ length text) → (l : p ≤ a) → Sp
 abbrev μ-loop : tie.MeasureT-loop
 μ-loop text a p word k₀ k = 9 - k
 
-sub-if1 : tie.Need-sub-if1 Inv-loop μ-loop
-sub-if1 c = search needs
-
 returns : tie.Need-returns Inv-loop μ-loop
 returns c = spelling-short (c .before .before .args .text .now) (c .before .before .args .a) (omega arith) (c .before .before .args .p) (omega arith) (c .if1 .taken)
 
 loop-holds : tie.Need-loop-holds Inv-loop μ-loop
-loop-holds c = λ h l. spelling-first (c .before .before .before .args .text .now) (c .before .before .before .args .a) h (c .before .before .before .args .p) l (c .before .if1 .left)
-
-add-if2 : tie.Need-add-if2 Inv-loop μ-loop
-add-if2 c = search needs
-
-shared-slice-read-if2 : tie.Need-shared-slice-read-if2 Inv-loop μ-loop
-shared-slice-read-if2 c = search needs
-
-element-copy-out-if2 : tie.Need-element-copy-out-if2 Inv-loop μ-loop
-element-copy-out-if2 c = search needs
+loop-holds c =
+    let c3 = c .before .before .before in
+    λ h l. spelling-first (c3 .args .text .now) (c3 .args .a) h (c3 .args .p) l (c .before .if1 .left)
 
 returns-2 : tie.Need-returns-2 Inv-loop μ-loop
 unfolding addrspace
-returns-2 c = spelling-other (c .before .before .before .before .before .before .before .before .args .text .now) (c .before .before .before .before .before .before .before .before .args .a) (omega arith) (c .before .before .before .before .before .before .before .before .args .p) (omega arith) (c .before .before .before .before .loop .k) (c .before .before .before .before .loop .inv (omega arith) (omega arith)) (c .before .before .before .loop-test .taken) (c .if2 .taken)
-
-add-k : tie.Need-add-k Inv-loop μ-loop
-add-k c = search needs
-
-loop-less : tie.Need-loop-less Inv-loop μ-loop
-loop-less c = search needs
+returns-2 c =
+    let c3 = c .before .before .before in
+    let c4 = c3 .before in
+    let c8 = c4 .before .before .before .before in
+    spelling-other (c8 .args .text .now) (c8 .args .a) (omega arith) (c8 .args .p) (omega arith) (c4 .loop .k) (c4 .loop .inv (omega arith) (omega arith)) (c3 .loop-test .taken) (c .if2 .taken)
 
 loop-again : tie.Need-loop-again Inv-loop μ-loop
 unfolding addrspace
-loop-again c = λ h l. spelling-more (c .before .before .before .before .before .before .before .before .args .text .now) (c .before .before .before .before .before .before .before .before .args .a) h (c .before .before .before .before .before .before .before .before .args .p) l (c .before .before .before .before .loop .k) (c .before .before .before .before .loop .inv h l) (c .before .before .before .loop-test .taken) (c .if2 .left)
-
-add-is-word : tie.Need-add-is-word Inv-loop μ-loop
-add-is-word c = search needs
-
-shared-slice-read-is-word : tie.Need-shared-slice-read-is-word Inv-loop μ-loop
-shared-slice-read-is-word c = search needs
-
-is-word-requires : tie.Need-is-word-requires Inv-loop μ-loop
-is-word-requires c κs = search needs
+loop-again c =
+    let c3 = c .before .before .before in
+    let c4 = c3 .before in
+    let c8 = c4 .before .before .before .before in
+    λ h l. spelling-more (c8 .args .text .now) (c8 .args .a) h (c8 .args .p) l (c4 .loop .k) (c4 .loop .inv h l) (c3 .loop-test .taken) (c .if2 .left)
 
 returns-3 : tie.Need-returns-3 Inv-loop μ-loop
-returns-3 c = sym (spelling-end (c .before .before .before .before .before .before .before .before .args .text .now) (c .before .before .before .before .before .before .before .before .args .a) (omega arith) (c .before .before .before .before .before .before .before .before .args .p) (omega arith) (c .before .before .before .before .loop .k) (c .before .before .before .before .loop .inv (omega arith) (omega arith)) (c .before .before .before .loop-test .left) ∙ ap not (sym (c .before .is-word .ensures) ∙ c .if3 .taken))
+returns-3 c =
+    let c3 = c .before .before .before in
+    let c4 = c3 .before in
+    let c8 = c4 .before .before .before .before in
+    sym
+    (spelling-end (c8 .args .text .now) (c8 .args .a) (omega arith) (c8 .args .p) (omega arith) (c4 .loop .k) (c4 .loop .inv (omega arith) (omega arith)) (c3 .loop-test .left) ∙ ap not
+    (sym (c .before .is-word .ensures) ∙ c .if3 .taken))
 
 returns-4 : tie.Need-returns-4 Inv-loop μ-loop
-returns-4 c = sym (spelling-end (c .before .before .before .before .before .before .before .before .args .text .now) (c .before .before .before .before .before .before .before .before .args .a) (omega arith) (c .before .before .before .before .before .before .before .before .args .p) (omega arith) (c .before .before .before .before .loop .k) (c .before .before .before .before .loop .inv (omega arith) (omega arith)) (c .before .before .before .loop-test .left) ∙ ap not (sym (c .before .is-word .ensures) ∙ c .if3 .left))
+returns-4 c =
+    let c3 = c .before .before .before in
+    let c4 = c3 .before in
+    let c8 = c4 .before .before .before .before in
+    sym
+    (spelling-end (c8 .args .text .now) (c8 .args .a) (omega arith) (c8 .args .p) (omega arith) (c4 .loop .k) (c4 .loop .inv (omega arith) (omega arith)) (c3 .loop-test .left) ∙ ap not
+    (sym (c .before .is-word .ensures) ∙ c .if3 .left))
 
 pub addrspace-at-spec : {M : Type 1} → statement M
 addrspace-at-spec =
@@ -68,18 +64,18 @@ addrspace-at-spec =
     (tie.spec
     Inv-loop
     μ-loop
-    sub-if1
+    (λ c. search needs)
     returns
     loop-holds
-    add-if2
-    shared-slice-read-if2
-    element-copy-out-if2
+    (λ c. search needs)
+    (λ c. search needs)
+    (λ c. search needs)
     returns-2
-    add-k
-    loop-less
+    (λ c. search needs)
+    (λ c. search needs)
     loop-again
-    add-is-word
-    shared-slice-read-is-word
-    is-word-requires
+    (λ c. search needs)
+    (λ c. search needs)
+    (λ c κs. search needs)
     returns-3
     returns-4)

@@ -1,3 +1,4 @@
+-- The invariant: all bytes from `from` up to i are letters, digits or `_`.
 use mathlib.Core.Path.{sym, _∙_}
 use Prim.Native.Nat.{_-_, _≤_}
 use native.Mathlib.Omega.{arith}
@@ -16,23 +17,21 @@ abbrev μ-loop : tie.MeasureT-loop
 loop-holds : tie.Need-loop-holds Inv-loop μ-loop
 loop-holds c = λ h. searching-first (c .before .args .text .now) (c .before .args .a) h (c .before .args .from) (omega arith)
 
-shared-slice-read-is-word : tie.Need-shared-slice-read-is-word Inv-loop μ-loop
-shared-slice-read-is-word c = search needs
-
-is-word-requires : tie.Need-is-word-requires Inv-loop μ-loop
-is-word-requires c κs = search needs
-
-add-i : tie.Need-add-i Inv-loop μ-loop
-add-i c = search needs
-
-loop-less : tie.Need-loop-less Inv-loop μ-loop
-loop-less c = search needs
-
 loop-again : tie.Need-loop-again Inv-loop μ-loop
-loop-again c = λ h. searching-more (c .before .before .before .before .before .before .args .text .now) (c .before .before .before .before .before .before .args .a) h (c .before .before .before .before .before .before .args .from) (c .before .before .before .before .loop .i) (c .before .before .before .before .loop .inv h) (c .before .before .before .loop-test .taken) (sym (c .before .is-word .ensures) ∙ c .if1 .taken)
+loop-again c =
+    let c3 = c .before .before .before in
+    let c4 = c3 .before in
+    let c6 = c4 .before .before in
+    λ h. searching-more (c6 .args .text .now) (c6 .args .a) h (c6 .args .from) (c4 .loop .i) (c4 .loop .inv h) (c3 .loop-test .taken)
+    (sym (c .before .is-word .ensures) ∙ c .if1 .taken)
 
 returns : tie.Need-returns Inv-loop μ-loop
-returns c = found (c .before .before .before .before .before .before .args .text .now) (c .before .before .before .before .before .before .args .a) (omega arith) (c .before .before .before .before .before .before .args .from) (c .before .before .before .before .loop .i) (c .before .before .before .before .loop .inv (omega arith)) (c .before .before .before .loop-test .taken) (sym (c .before .is-word .ensures) ∙ c .if1 .left)
+returns c =
+    let c3 = c .before .before .before in
+    let c4 = c3 .before in
+    let c6 = c4 .before .before in
+    found (c6 .args .text .now) (c6 .args .a) (omega arith) (c6 .args .from) (c4 .loop .i) (c4 .loop .inv (omega arith)) (c3 .loop-test .taken)
+    (sym (c .before .is-word .ensures) ∙ c .if1 .left)
 
 returns-2 : tie.Need-returns-2 Inv-loop μ-loop
 returns-2 c = found-end (c .before .before .before .args .text .now) (c .before .before .before .args .a) (omega arith) (c .before .before .before .args .from) (c .before .loop .i) (c .before .loop .inv (omega arith)) (c .loop-test .left)
@@ -44,10 +43,10 @@ word-end-spec =
     Inv-loop
     μ-loop
     loop-holds
-    shared-slice-read-is-word
-    is-word-requires
-    add-i
-    loop-less
+    (λ c. search needs)
+    (λ c κs. search needs)
+    (λ c. search needs)
+    (λ c. search needs)
     loop-again
     returns
     returns-2)

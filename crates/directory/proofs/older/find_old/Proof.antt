@@ -1,3 +1,4 @@
+-- The invariant: the pieces before j, but for the head, start before the target; starts do not fall, so a later one ends the search.
 use Prim.Native.Nat.{_-_, _≤_}
 use native.Mathlib.Omega.{arith}
 use Rattle.directory.specs.Olds.{oldsOf, Passed}
@@ -15,32 +16,32 @@ abbrev μ-loop : tie.MeasureT-loop
 loop-holds : tie.Need-loop-holds Inv-loop μ-loop
 loop-holds c = (c .pre .0, c .pre .1 .1)
 
-mul-start : tie.Need-mul-start Inv-loop μ-loop
-mul-start c = search needs
-
-mul-start-2 : tie.Need-mul-start-2 Inv-loop μ-loop
-mul-start-2 c = search needs
-
-shared-slice-read-start : tie.Need-shared-slice-read-start Inv-loop μ-loop
-shared-slice-read-start c = search needs
-
 returns : tie.Need-returns Inv-loop μ-loop
-returns c = found-here (c .before .before .before .before .args .entries) (c .before .before .before .before .args .directory .now) (c .before .before .before .before .pre .1 .0) (c .before .before .before .loop .j) (c .before .before .before .before .args .target) (c .before .before .before .loop .inv .1) (c .before .before .loop-test .taken) (c .if1 .taken)
+returns c =
+    let c2 = c .before .before in
+    let c3 = c2 .before in
+    let c4 = c3 .before in
+    found-here (c4 .args .entries) (c4 .args .directory .now) (c4 .pre .1 .0) (c3 .loop .j) (c4 .args .target) (c3 .loop .inv .1) (c2 .loop-test .taken) (c .if1 .taken)
 
 returns-2 : tie.Need-returns-2 Inv-loop μ-loop
-returns-2 c = found-none (c .before .before .before .before .before .args .entries) (c .before .before .before .before .before .args .directory .now) (c .before .before .before .before .before .pre .1 .0) (c .before .before .before .before .loop .j) (c .before .before .before .before .before .args .target) (c .before .before .before .before .loop .inv .1) (c .before .before .before .loop-test .taken) (c .if2 .taken)
-
-add-j : tie.Need-add-j Inv-loop μ-loop
-add-j c = search needs
-
-loop-less : tie.Need-loop-less Inv-loop μ-loop
-loop-less c = search needs
+returns-2 c =
+    let c3 = c .before .before .before in
+    let c4 = c3 .before in
+    let c5 = c4 .before in
+    found-none (c5 .args .entries) (c5 .args .directory .now) (c5 .pre .1 .0) (c4 .loop .j) (c5 .args .target) (c4 .loop .inv .1) (c3 .loop-test .taken) (c .if2 .taken)
 
 loop-again : tie.Need-loop-again Inv-loop μ-loop
-loop-again c = (omega arith, passed-more (c .before .before .before .before .before .args .entries) (c .before .before .before .before .before .args .directory .now) (c .before .before .before .before .before .pre .1 .0) (c .before .before .before .before .loop .j) (c .before .before .before .before .before .args .target) (c .before .before .before .before .loop .inv .1) (c .before .before .before .loop-test .taken) (c .before .if1 .left) (c .if2 .left))
+loop-again c =
+    let c3 = c .before .before .before in
+    let c4 = c3 .before in
+    let c5 = c4 .before in
+    (omega arith, passed-more (c5 .args .entries) (c5 .args .directory .now) (c5 .pre .1 .0) (c4 .loop .j) (c5 .args .target) (c4 .loop .inv .1) (c3 .loop-test .taken) (c .before .if1 .left) (c .if2 .left))
 
 returns-3 : tie.Need-returns-3 Inv-loop μ-loop
-returns-3 c = found-end (c .before .before .args .entries) (c .before .before .args .directory .now) (c .before .before .pre .1 .0) (c .before .loop .j) (c .before .before .args .target) (c .before .loop .inv .1) (c .before .loop .inv .0) (c .loop-test .left)
+returns-3 c =
+    let c1 = c .before in
+    let c2 = c1 .before in
+    found-end (c2 .args .entries) (c2 .args .directory .now) (c2 .pre .1 .0) (c1 .loop .j) (c2 .args .target) (c1 .loop .inv .1) (c1 .loop .inv .0) (c .loop-test .left)
 
 pub find-old-spec : {M : Type 1} → statement M
 find-old-spec =
@@ -49,12 +50,12 @@ find-old-spec =
     Inv-loop
     μ-loop
     loop-holds
-    mul-start
-    mul-start-2
-    shared-slice-read-start
+    (λ c. search needs)
+    (λ c. search needs)
+    (λ c. search needs)
     returns
     returns-2
-    add-j
-    loop-less
+    (λ c. search needs)
+    (λ c. search needs)
     loop-again
     returns-3)

@@ -1,3 +1,4 @@
+-- The invariant: the verdict on all old pieces is that on those from k on, at the place that the loop has.
 use mathlib.Core.Path.{refl, sym, _∙_}
 use Prim.Native.Nat.{_+_, _-_, _*_, _%_}
 use native.Mathlib.Omega.{arith}
@@ -10,79 +11,98 @@ use Rattle.directory.proofs.rooms.room_kept.Statement.{statement}
 use Rattle.directory.proofs.rooms.room_kept.Tie as tie
 
 abbrev Inv-loop : tie.InvT-loop
-Inv-loop directory entries from i pos at words-len k₀ number₀ place₀ first₀ k number place first = Judging words-len (length directory) entries directory (judge words-len (length directory) i pos at (sizesOf (drop from (oldsOf entries directory)))) k number place first
+Inv-loop directory from entries lent k₀ number₀ pos₀ word₀ k number pos word = Judging (lent .words) (length directory) entries directory (judge (lent .words) (length directory) number₀ pos₀ word₀ (sizesOf (drop from (oldsOf entries directory)))) k number pos word
 
 abbrev μ-loop : tie.MeasureT-loop
-μ-loop directory entries from i pos at words-len k₀ number₀ place₀ first₀ k number place first = entries - k
+μ-loop directory from entries lent k₀ number₀ pos₀ word₀ k number pos word = entries - k
 
 loop-holds : tie.Need-loop-holds Inv-loop μ-loop
 loop-holds c = record { small = c .before .pre .1; same = refl }
 
-mul-e : tie.Need-mul-e Inv-loop μ-loop
-mul-e c = search needs
-
-mul-e-2 : tie.Need-mul-e-2 Inv-loop μ-loop
-mul-e-2 c = search needs
-
-shared-slice-read-e : tie.Need-shared-slice-read-e Inv-loop μ-loop
-shared-slice-read-e c = search needs
-
-mul-n : tie.Need-mul-n Inv-loop μ-loop
-mul-n c = search needs
-
-add-n : tie.Need-add-n Inv-loop μ-loop
-add-n c = search needs
-
-mul-n-2 : tie.Need-mul-n-2 Inv-loop μ-loop
-mul-n-2 c = search needs
-
-shared-slice-read-n : tie.Need-shared-slice-read-n Inv-loop μ-loop
-shared-slice-read-n c = search needs
-
-room-for-requires : tie.Need-room-for-requires Inv-loop μ-loop
-room-for-requires c κs = search needs
-
-enum-told : tie.Need-enum-told Inv-loop μ-loop
-enum-told c = search needs
-
-add-t23 : tie.Need-add-t23 Inv-loop μ-loop
-add-t23 c = omega (arith, place-small (c .before .before .before .before .before .before .before .before .args .words-len) (length (c .before .before .before .before .before .before .before .before .args .directory .now)) (c .before .before .before .before .before .before .before .before .args .entries) (c .before .before .before .before .before .before .before .before .args .directory .now) (judge (c .before .before .before .before .before .before .before .before .args .words-len) (length (c .before .before .before .before .before .before .before .before .args .directory .now)) (c .before .before .before .before .before .before .before .before .args .i) (c .before .before .before .before .before .before .before .before .args .pos) (c .before .before .before .before .before .before .before .before .args .at) (sizesOf (drop (c .before .before .before .before .before .before .before .before .args .from) (oldsOf (c .before .before .before .before .before .before .before .before .args .entries) (c .before .before .before .before .before .before .before .before .args .directory .now))))) (c .before .before .before .before .before .before .before .before .pre .0) (c .before .before .before .before .before .before .loop .k) (c .before .before .before .before .before .before .loop .number) (c .before .before .before .before .before .before .loop .place) (c .before .before .before .before .before .before .loop .first) (c .before .before .before .before .before .before .loop .inv) (c .before .before .before .before .before .loop-test .taken))
+add-t24 : tie.Need-add-t24 Inv-loop μ-loop
+add-t24 c =
+    let c5 = c .before .before .before .before .before in
+    let c6 = c5 .before in
+    let c8 = c6 .before .before in
+    omega (
+      arith,
+      place-small (c8 .args .older .words) (length (c8 .args .directory .now)) (c8 .args .older .entries) (c8 .args .directory .now) (judge (c8 .args .older .words) (length (c8 .args .directory .now)) (c8 .args .spot .number) (c8 .args .spot .pos) (c8 .args .spot .word)
+          (sizesOf
+          (drop (c8 .args .from)
+          (oldsOf (c8 .args .older .entries) (c8 .args .directory .now))))) (c8 .pre .0) (c6 .loop .k) (c6 .loop .number) (c6 .loop .pos) (c6 .loop .word) (c6 .loop .inv) (c5 .loop-test .taken),
+    )
 
 returns : tie.Need-returns Inv-loop μ-loop
-returns c = judging-words (c .before .before .before .before .before .before .before .before .args .words-len) (length (c .before .before .before .before .before .before .before .before .args .directory .now)) (c .before .before .before .before .before .before .before .before .args .entries) (c .before .before .before .before .before .before .before .before .args .directory .now) (judge (c .before .before .before .before .before .before .before .before .args .words-len) (length (c .before .before .before .before .before .before .before .before .args .directory .now)) (c .before .before .before .before .before .before .before .before .args .i) (c .before .before .before .before .before .before .before .before .args .pos) (c .before .before .before .before .before .before .before .before .args .at) (sizesOf (drop (c .before .before .before .before .before .before .before .before .args .from) (oldsOf (c .before .before .before .before .before .before .before .before .args .entries) (c .before .before .before .before .before .before .before .before .args .directory .now))))) (c .before .before .before .before .before .before .before .before .pre .0) (c .before .before .before .before .before .before .loop .k) (c .before .before .before .before .before .before .loop .number) (c .before .before .before .before .before .before .loop .place) (c .before .before .before .before .before .before .loop .first) (c .before .before .before .before .before .before .loop .inv) (c .before .before .before .before .before .loop-test .taken) (sym (c .enum-told .given .1) ∙ c .before .before .room-for .ensures)
-
-enum-told-2 : tie.Need-enum-told-2 Inv-loop μ-loop
-enum-told-2 c = search needs
-
-add-t24 : tie.Need-add-t24 Inv-loop μ-loop
-add-t24 c = omega (arith, place-small (c .before .before .before .before .before .before .before .before .args .words-len) (length (c .before .before .before .before .before .before .before .before .args .directory .now)) (c .before .before .before .before .before .before .before .before .args .entries) (c .before .before .before .before .before .before .before .before .args .directory .now) (judge (c .before .before .before .before .before .before .before .before .args .words-len) (length (c .before .before .before .before .before .before .before .before .args .directory .now)) (c .before .before .before .before .before .before .before .before .args .i) (c .before .before .before .before .before .before .before .before .args .pos) (c .before .before .before .before .before .before .before .before .args .at) (sizesOf (drop (c .before .before .before .before .before .before .before .before .args .from) (oldsOf (c .before .before .before .before .before .before .before .before .args .entries) (c .before .before .before .before .before .before .before .before .args .directory .now))))) (c .before .before .before .before .before .before .before .before .pre .0) (c .before .before .before .before .before .before .loop .k) (c .before .before .before .before .before .before .loop .number) (c .before .before .before .before .before .before .loop .place) (c .before .before .before .before .before .before .loop .first) (c .before .before .before .before .before .before .loop .inv) (c .before .before .before .before .before .loop-test .taken))
+returns c =
+    let c2 = c .before .before in
+    let c5 = c2 .before .before .before in
+    let c6 = c5 .before in
+    let c8 = c6 .before .before in
+    judging-words (c8 .args .older .words) (length (c8 .args .directory .now)) (c8 .args .older .entries) (c8 .args .directory .now) (judge (c8 .args .older .words) (length (c8 .args .directory .now)) (c8 .args .spot .number) (c8 .args .spot .pos) (c8 .args .spot .word)
+    (sizesOf
+    (drop (c8 .args .from)
+    (oldsOf (c8 .args .older .entries) (c8 .args .directory .now))))) (c8 .pre .0) (c6 .loop .k) (c6 .loop .number) (c6 .loop .pos) (c6 .loop .word) (c6 .loop .inv) (c5 .loop-test .taken)
+    (sym (c .enum-told .given .1) ∙ c2 .room-for .ensures)
 
 returns-2 : tie.Need-returns-2 Inv-loop μ-loop
-returns-2 c = judging-entry (c .before .before .before .before .before .before .before .before .args .words-len) (length (c .before .before .before .before .before .before .before .before .args .directory .now)) (c .before .before .before .before .before .before .before .before .args .entries) (c .before .before .before .before .before .before .before .before .args .directory .now) (judge (c .before .before .before .before .before .before .before .before .args .words-len) (length (c .before .before .before .before .before .before .before .before .args .directory .now)) (c .before .before .before .before .before .before .before .before .args .i) (c .before .before .before .before .before .before .before .before .args .pos) (c .before .before .before .before .before .before .before .before .args .at) (sizesOf (drop (c .before .before .before .before .before .before .before .before .args .from) (oldsOf (c .before .before .before .before .before .before .before .before .args .entries) (c .before .before .before .before .before .before .before .before .args .directory .now))))) (c .before .before .before .before .before .before .before .before .pre .0) (c .before .before .before .before .before .before .loop .k) (c .before .before .before .before .before .before .loop .number) (c .before .before .before .before .before .before .loop .place) (c .before .before .before .before .before .before .loop .first) (c .before .before .before .before .before .before .loop .inv) (c .before .before .before .before .before .loop-test .taken) (sym (c .enum-told2 .given .1) ∙ c .before .before .room-for .ensures)
-
-enum-told-3 : tie.Need-enum-told-3 Inv-loop μ-loop
-enum-told-3 c = search needs
-
-add-k : tie.Need-add-k Inv-loop μ-loop
-add-k c = search needs
+returns-2 c =
+    let c2 = c .before .before in
+    let c5 = c2 .before .before .before in
+    let c6 = c5 .before in
+    let c8 = c6 .before .before in
+    judging-entry (c8 .args .older .words) (length (c8 .args .directory .now)) (c8 .args .older .entries) (c8 .args .directory .now) (judge (c8 .args .older .words) (length (c8 .args .directory .now)) (c8 .args .spot .number) (c8 .args .spot .pos) (c8 .args .spot .word)
+    (sizesOf
+    (drop (c8 .args .from)
+    (oldsOf (c8 .args .older .entries) (c8 .args .directory .now))))) (c8 .pre .0) (c6 .loop .k) (c6 .loop .number) (c6 .loop .pos) (c6 .loop .word) (c6 .loop .inv) (c5 .loop-test .taken)
+    (sym (c .enum-told2 .given .1) ∙ c2 .room-for .ensures)
 
 add-number : tie.Need-add-number Inv-loop μ-loop
-add-number c = let f = fitting (c .before .before .before .before .before .before .before .before .args .words-len) (length (c .before .before .before .before .before .before .before .before .args .directory .now)) (c .before .before .before .before .before .before .loop .number) (c .before .before .before .before .before .before .loop .first) (getD (c .before .before .before .before .before .before .before .before .args .directory .now) (c .before .before .before .before .before .before .loop .k * 2 + 1) 0 % 4294967296) (sym (c .before .before .room-for .ensures) ∙ c .enum-told3 .given .1) in omega (arith, f .entry)
+add-number c =
+    let c2 = c .before .before in
+    let c6 = c2 .before .before .before .before in
+    let c8 = c6 .before .before in
+    let f = fitting (c8 .args .older .words) (length (c8 .args .directory .now)) (c6 .loop .number) (c6 .loop .word) (getD (c8 .args .directory .now) (c6 .loop .k * 2 + 1) 0 % 4294967296) (sym (c2 .room-for .ensures) ∙ c .enum-told3 .given .1) in omega (arith, f .entry)
 
-add-place : tie.Need-add-place Inv-loop μ-loop
-add-place c = omega (arith, place-small (c .before .before .before .before .before .before .before .before .args .words-len) (length (c .before .before .before .before .before .before .before .before .args .directory .now)) (c .before .before .before .before .before .before .before .before .args .entries) (c .before .before .before .before .before .before .before .before .args .directory .now) (judge (c .before .before .before .before .before .before .before .before .args .words-len) (length (c .before .before .before .before .before .before .before .before .args .directory .now)) (c .before .before .before .before .before .before .before .before .args .i) (c .before .before .before .before .before .before .before .before .args .pos) (c .before .before .before .before .before .before .before .before .args .at) (sizesOf (drop (c .before .before .before .before .before .before .before .before .args .from) (oldsOf (c .before .before .before .before .before .before .before .before .args .entries) (c .before .before .before .before .before .before .before .before .args .directory .now))))) (c .before .before .before .before .before .before .before .before .pre .0) (c .before .before .before .before .before .before .loop .k) (c .before .before .before .before .before .before .loop .number) (c .before .before .before .before .before .before .loop .place) (c .before .before .before .before .before .before .loop .first) (c .before .before .before .before .before .before .loop .inv) (c .before .before .before .before .before .loop-test .taken))
+add-pos : tie.Need-add-pos Inv-loop μ-loop
+add-pos c =
+    let c5 = c .before .before .before .before .before in
+    let c6 = c5 .before in
+    let c8 = c6 .before .before in
+    omega (
+      arith,
+      place-small (c8 .args .older .words) (length (c8 .args .directory .now)) (c8 .args .older .entries) (c8 .args .directory .now) (judge (c8 .args .older .words) (length (c8 .args .directory .now)) (c8 .args .spot .number) (c8 .args .spot .pos) (c8 .args .spot .word)
+          (sizesOf
+          (drop (c8 .args .from)
+          (oldsOf (c8 .args .older .entries) (c8 .args .directory .now))))) (c8 .pre .0) (c6 .loop .k) (c6 .loop .number) (c6 .loop .pos) (c6 .loop .word) (c6 .loop .inv) (c5 .loop-test .taken),
+    )
 
-add-first : tie.Need-add-first Inv-loop μ-loop
-add-first c = let f = fitting (c .before .before .before .before .before .before .before .before .args .words-len) (length (c .before .before .before .before .before .before .before .before .args .directory .now)) (c .before .before .before .before .before .before .loop .number) (c .before .before .before .before .before .before .loop .first) (getD (c .before .before .before .before .before .before .before .before .args .directory .now) (c .before .before .before .before .before .before .loop .k * 2 + 1) 0 % 4294967296) (sym (c .before .before .room-for .ensures) ∙ c .enum-told3 .given .1) in omega (arith, f .small)
-
-loop-less : tie.Need-loop-less Inv-loop μ-loop
-loop-less c = search needs
+add-word : tie.Need-add-word Inv-loop μ-loop
+add-word c =
+    let c2 = c .before .before in
+    let c6 = c2 .before .before .before .before in
+    let c8 = c6 .before .before in
+    let f = fitting (c8 .args .older .words) (length (c8 .args .directory .now)) (c6 .loop .number) (c6 .loop .word) (getD (c8 .args .directory .now) (c6 .loop .k * 2 + 1) 0 % 4294967296) (sym (c2 .room-for .ensures) ∙ c .enum-told3 .given .1) in omega (arith, f .small)
 
 loop-again : tie.Need-loop-again Inv-loop μ-loop
-loop-again c = judging-next (c .before .before .before .before .before .before .before .before .args .words-len) (length (c .before .before .before .before .before .before .before .before .args .directory .now)) (c .before .before .before .before .before .before .before .before .args .entries) (c .before .before .before .before .before .before .before .before .args .directory .now) (judge (c .before .before .before .before .before .before .before .before .args .words-len) (length (c .before .before .before .before .before .before .before .before .args .directory .now)) (c .before .before .before .before .before .before .before .before .args .i) (c .before .before .before .before .before .before .before .before .args .pos) (c .before .before .before .before .before .before .before .before .args .at) (sizesOf (drop (c .before .before .before .before .before .before .before .before .args .from) (oldsOf (c .before .before .before .before .before .before .before .before .args .entries) (c .before .before .before .before .before .before .before .before .args .directory .now))))) (c .before .before .before .before .before .before .before .before .pre .0) (c .before .before .before .before .before .before .loop .k) (c .before .before .before .before .before .before .loop .number) (c .before .before .before .before .before .before .loop .place) (c .before .before .before .before .before .before .loop .first) (c .before .before .before .before .before .before .loop .inv) (c .before .before .before .before .before .loop-test .taken) (sym (c .enum-told3 .given .1) ∙ c .before .before .room-for .ensures)
+loop-again c =
+    let c2 = c .before .before in
+    let c5 = c2 .before .before .before in
+    let c6 = c5 .before in
+    let c8 = c6 .before .before in
+    judging-next (c8 .args .older .words) (length (c8 .args .directory .now)) (c8 .args .older .entries) (c8 .args .directory .now) (judge (c8 .args .older .words) (length (c8 .args .directory .now)) (c8 .args .spot .number) (c8 .args .spot .pos) (c8 .args .spot .word)
+    (sizesOf
+    (drop (c8 .args .from)
+    (oldsOf (c8 .args .older .entries) (c8 .args .directory .now))))) (c8 .pre .0) (c6 .loop .k) (c6 .loop .number) (c6 .loop .pos) (c6 .loop .word) (c6 .loop .inv) (c5 .loop-test .taken)
+    (sym (c .enum-told3 .given .1) ∙ c2 .room-for .ensures)
 
 returns-3 : tie.Need-returns-3 Inv-loop μ-loop
-returns-3 c = judging-end (c .before .before .before .args .words-len) (length (c .before .before .before .args .directory .now)) (c .before .before .before .args .entries) (c .before .before .before .args .directory .now) (judge (c .before .before .before .args .words-len) (length (c .before .before .before .args .directory .now)) (c .before .before .before .args .i) (c .before .before .before .args .pos) (c .before .before .before .args .at) (sizesOf (drop (c .before .before .before .args .from) (oldsOf (c .before .before .before .args .entries) (c .before .before .before .args .directory .now))))) (c .before .before .before .pre .0) (c .before .loop .k) (c .before .loop .number) (c .before .loop .place) (c .before .loop .first) (c .loop-test .left) (c .before .loop .inv)
+returns-3 c =
+    let c1 = c .before in
+    let c3 = c1 .before .before in
+    judging-end (c3 .args .older .words) (length (c3 .args .directory .now)) (c3 .args .older .entries) (c3 .args .directory .now) (judge (c3 .args .older .words) (length (c3 .args .directory .now)) (c3 .args .spot .number) (c3 .args .spot .pos) (c3 .args .spot .word)
+    (sizesOf
+    (drop (c3 .args .from)
+    (oldsOf (c3 .args .older .entries) (c3 .args .directory .now))))) (c3 .pre .0) (c1 .loop .k) (c1 .loop .number) (c1 .loop .pos) (c1 .loop .word) (c .loop-test .left) (c1 .loop .inv)
 
 pub room-kept-spec : {M : Type 1} → statement M
 room-kept-spec =
@@ -91,25 +111,25 @@ room-kept-spec =
     Inv-loop
     μ-loop
     loop-holds
-    mul-e
-    mul-e-2
-    shared-slice-read-e
-    mul-n
-    add-n
-    mul-n-2
-    shared-slice-read-n
-    room-for-requires
-    enum-told
-    add-t23
-    returns
-    enum-told-2
+    (λ c. search needs)
+    (λ c. search needs)
+    (λ c. search needs)
+    (λ c. search needs)
+    (λ c. search needs)
+    (λ c. search needs)
+    (λ c. search needs)
+    (λ c κs. search needs)
+    (λ c. search needs)
     add-t24
+    returns
+    (λ c. search needs)
+    (λ c. search needs)
     returns-2
-    enum-told-3
-    add-k
+    (λ c. search needs)
+    (λ c. search needs)
     add-number
-    add-place
-    add-first
-    loop-less
+    add-pos
+    add-word
+    (λ c. search needs)
     loop-again
     returns-3)

@@ -1,4 +1,5 @@
-use mathlib.Core.Path.{_≡_, refl, sym, ap, _∙_}
+-- The invariant: the rank in the table is k and the rank in what is left of it; `cut` cuts one word off in each turn.
+use mathlib.Core.Path.{_≡_, sym, _∙_}
 use Prim.Native.Nat.{_+_, _-_, _≤_}
 use native.Mathlib.Omega.{arith}
 use lib.ListN.{length, drop}
@@ -16,10 +17,18 @@ abbrev μ-loop : tie.MeasureT-loop
 μ-loop w lens bytes k₀ a₀ k a = length lens - k
 
 returns : tie.Need-returns Inv-loop μ-loop
-returns c = let z : c .before .before .before .before .before .before .before .loop .a + c .before .before .before .least .result - c .before .before .before .before .before .before .before .loop .a ≡ c .before .before .before .least .result = omega arith in sym (c .before .before .before .before .before .before .before .loop .inv .1 ∙ rank-hit _ _ _ _ _ (c .before .before .before .least .result) (c .before .before .before .before .before .before .loop-test .taken) (c .before .before .before .before .before .before .before .loop .inv .0) (λ h. c .before .before .before .least .ensures .2 .0 (omega arith) ∙ c .before .before .before .before .wide .ensures) (λ h. c .before .before .before .least .ensures .2 .1 (omega arith)) (rw z at (sym (c .before .same .ensures) ∙ c .if1 .taken)))
+returns c =
+    let c3 = c .before .before .before in
+    let c6 = c3 .before .before .before in
+    let c7 = c6 .before in
+    let z : c .before .before .before .before .before .before .before .loop .a + c3 .least .result - c7 .loop .a ≡ c3 .least .result = omega arith in sym (c7 .loop .inv .1 ∙ rank-hit _ _ _ _ _ (c3 .least .result) (c6 .loop-test .taken) (c7 .loop .inv .0) (λ h. c3 .least .ensures .2 .0 (omega arith) ∙ c3 .before .wide .ensures) (λ h. c3 .least .ensures .2 .1 (omega arith)) (rw z at (sym (c .before .same .ensures) ∙ c .if1 .taken)))
 
 loop-again : tie.Need-loop-again Inv-loop μ-loop
-loop-again c = let z : c .before .before .before .before .before .before .before .loop .a + c .before .before .before .least .result - c .before .before .before .before .before .before .before .loop .a ≡ c .before .before .before .least .result = omega arith in (omega arith, c .before .before .before .before .before .before .before .loop .inv .1 ∙ rank-miss _ _ _ _ _ (c .before .before .before .least .result) (c .before .before .before .before .before .before .loop-test .taken) (c .before .before .before .before .before .before .before .loop .inv .0) (λ h. c .before .before .before .least .ensures .2 .0 (omega arith) ∙ c .before .before .before .before .wide .ensures) (λ h. c .before .before .before .least .ensures .2 .1 (omega arith)) (rw z at (sym (c .before .same .ensures) ∙ c .if1 .left)))
+loop-again c =
+    let c3 = c .before .before .before in
+    let c6 = c3 .before .before .before in
+    let c7 = c6 .before in
+    let z : c .before .before .before .before .before .before .before .loop .a + c3 .least .result - c7 .loop .a ≡ c3 .least .result = omega arith in (omega arith, c7 .loop .inv .1 ∙ rank-miss _ _ _ _ _ (c3 .least .result) (c6 .loop-test .taken) (c7 .loop .inv .0) (λ h. c3 .least .ensures .2 .0 (omega arith) ∙ c3 .before .wide .ensures) (λ h. c3 .least .ensures .2 .1 (omega arith)) (rw z at (sym (c .before .same .ensures) ∙ c .if1 .left)))
 
 returns-2 : tie.Need-returns-2 Inv-loop μ-loop
 returns-2 c = sym (c .before .loop .inv .1 ∙ rank-out _ _ _ _ (c .loop-test .left))

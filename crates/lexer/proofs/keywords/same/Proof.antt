@@ -1,6 +1,6 @@
+-- Words of different lengths differ; the invariant: they are the same if what is left of them at i is.
 use mathlib.Core.Path.{_≡_, refl, sym, _∙_}
 use Prim.Native.Nat.{_-_}
-use native.Mathlib.Omega.{arith}
 use lib.ListN.{length, drop}
 use Rattle.grammar.specs.Lexer.{sameWord}
 use Rattle.lexer.proofs.Ranks.{same-long, same-other, same-more, same-end}
@@ -18,7 +18,9 @@ returns : tie.Need-returns Inv-loop μ-loop
 returns c = sym (same-long _ _ (c .if1 .taken))
 
 returns-2 : tie.Need-returns-2 Inv-loop μ-loop
-returns-2 c = sym (c .before .before .before .before .loop .inv ∙ same-other _ _ _ (c .before .before .before .loop-test .taken) (search needs) (c .if2 .taken))
+returns-2 c =
+    sym
+    (c .before .before .before .before .loop .inv ∙ same-other _ _ _ (c .before .before .before .loop-test .taken) (search needs) (c .if2 .taken))
 
 loop-again : tie.Need-loop-again Inv-loop μ-loop
 loop-again c = c .before .before .before .before .loop .inv ∙ same-more _ _ _ (c .before .before .before .loop-test .taken) (search needs) (c .if2 .left)

@@ -1,5 +1,7 @@
+-- The invariant: the program comes to itself with `left` turns to go; a keyword takes one of them, and no text has as many.
 use native.Mathlib.Omega.{arith}
-use Rattle.grammar.specs.Lexer.{skipAll, turns}
+use Rattle.grammar.specs.Lexer.{skipAll}
+use Rattle.records.specs.Limits.{turns}
 use Rattle.lexer.specs.Table.{cut}
 use Rattle.lexer.specs.Reads.{Comes}
 use Rattle.lexer.proofs.Laws.{g-then, g-done, g-stay, g-on, g-more, g-no-more}
@@ -19,15 +21,36 @@ loop-holds c = g-stay
 
 returns : tie.Need-returns Inv-loop μ-loop
 unfolding skipAll
-returns c = g-on (c .before .before .before .before .loop .inv) (g-more (λ u. skipAll u (cut (c .before .before .before .before .before .before .before .before .args .lens .now) (c .before .before .before .before .before .before .before .before .args .bytes .now))) (c .before .before .before .before .loop .left) (c .before .before .before .loop-test .taken) (g-then _ (c .before .before .eat-ws .ensures) (g-rank-no _ _ _ (c .before .match-rank .ensures) (omega (arith, cut-length (c .before .before .before .before .before .before .before .before .args .lens .now) (c .before .before .before .before .before .before .before .before .args .bytes .now))) g-done)))
+returns c =
+    let c2 = c .before .before in
+    let c4 = c2 .before .before in
+    let c8 = c4 .before .before .before .before in
+    g-on (c4 .loop .inv)
+    (g-more (λ u. skipAll u
+    (cut (c8 .args .lens .now) (c8 .args .bytes .now))) (c4 .loop .left) (c2 .before .loop-test .taken)
+    (g-then _ (c2 .eat-ws .ensures)
+    (g-rank-no _ _ _ (c .before .match-rank .ensures) (omega
+    (arith, cut-length (c8 .args .lens .now) (c8 .args .bytes .now))) g-done)))
 
 loop-again : tie.Need-loop-again Inv-loop μ-loop
 unfolding skipAll
-loop-again c = g-on (c .before .before .before .before .loop .inv) (g-more (λ u. skipAll u (cut (c .before .before .before .before .before .before .before .before .args .lens .now) (c .before .before .before .before .before .before .before .before .args .bytes .now))) (c .before .before .before .before .loop .left) (c .before .before .before .loop-test .taken) (g-then _ (c .before .before .eat-ws .ensures) (g-rank-yes _ _ _ (c .before .match-rank .ensures) (omega (arith, cut-length (c .before .before .before .before .before .before .before .before .args .lens .now) (c .before .before .before .before .before .before .before .before .args .bytes .now))) g-stay)))
+loop-again c =
+    let c2 = c .before .before in
+    let c4 = c2 .before .before in
+    let c8 = c4 .before .before .before .before in
+    g-on (c4 .loop .inv)
+    (g-more (λ u. skipAll u
+    (cut (c8 .args .lens .now) (c8 .args .bytes .now))) (c4 .loop .left) (c2 .before .loop-test .taken)
+    (g-then _ (c2 .eat-ws .ensures)
+    (g-rank-yes _ _ _ (c .before .match-rank .ensures) (omega
+    (arith, cut-length (c8 .args .lens .now) (c8 .args .bytes .now))) g-stay)))
 
 returns-2 : tie.Need-returns-2 Inv-loop μ-loop
 unfolding skipAll
-returns-2 c = g-on (c .before .loop .inv) (g-no-more (λ u. skipAll u (cut (c .before .before .before .before .before .args .lens .now) (c .before .before .before .before .before .args .bytes .now))) (c .before .loop .left) (c .loop-test .left) g-done)
+returns-2 c =
+    g-on (c .before .loop .inv)
+    (g-no-more (λ u. skipAll u
+    (cut (c .before .before .before .before .before .args .lens .now) (c .before .before .before .before .before .args .bytes .now))) (c .before .loop .left) (c .loop-test .left) g-done)
 
 pub skip-all-spec : {M : Type 1} → statement M
 skip-all-spec =

@@ -1,6 +1,4 @@
-use Prim.Native.Nat.{ℕ}
-use mathlib.Core.Bool.{Bool, true, false}
-use mathlib.Core.Path.{_≡_, refl}
+-- White space, then the keyword of that rank or none.
 use Rattle.grammar.specs.Lexer.{skipOne}
 use Rattle.lexer.proofs.Laws.{g-then, g-done}
 use Rattle.lexer.proofs.Ranks.{g-rank-any}
@@ -10,7 +8,9 @@ use Rattle.lexer.proofs.keywords.skip_one.Tie as tie
 
 returns : tie.Need-returns
 unfolding skipOne
-returns c = g-then _ (c .before .eat-ws .ensures) (g-rank-any _ _ _ (c .match-rank .ensures) (λ h. g-done) (λ h. g-done))
+returns c =
+    g-then _ (c .before .eat-ws .ensures)
+    (g-rank-any _ _ _ (c .match-rank .ensures) (λ h. g-done) (λ h. g-done))
 
 pub skip-one-spec : {M : Type 1} → statement M
 skip-one-spec = tie.close (tie.spec (λ c κs. search needs) (λ c κs. search needs) returns)

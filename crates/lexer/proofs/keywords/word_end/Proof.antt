@@ -1,3 +1,4 @@
+-- The invariant: the word at `at` ends where the word at i ends.
 use mathlib.Core.Path.{_≡_, refl, sym, _∙_}
 use Prim.Native.Nat.{_+_, _-_}
 use lib.ListN.{length, drop}
@@ -14,7 +15,9 @@ abbrev μ-loop : tie.MeasureT-loop
 μ-loop classes text at i₀ i = length text - i
 
 returns : tie.Need-returns Inv-loop μ-loop
-returns c = sym (c .before .before .before .before .loop .inv ∙ lead-stop _ _ _ (c .before .before .before .loop-test .taken) (c .before .class .ensures) (c .if1 .taken))
+returns c =
+    sym
+    (c .before .before .before .before .loop .inv ∙ lead-stop _ _ _ (c .before .before .before .loop-test .taken) (c .before .class .ensures) (c .if1 .taken))
 
 loop-again : tie.Need-loop-again Inv-loop μ-loop
 loop-again c = c .before .before .before .before .loop .inv ∙ lead-more _ _ _ (c .before .before .before .loop-test .taken) (c .before .class .ensures) (c .if1 .left)

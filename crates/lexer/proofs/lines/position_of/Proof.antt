@@ -1,3 +1,4 @@
+-- The invariant `LineAt`: line and column of i, and what the bytes from i up to the place still add to them.
 use native.Mathlib.Omega.{arith}
 use mathlib.Core.Logic.{⊎-elim}
 use Prim.Native.Nat.{_-_}
@@ -28,7 +29,12 @@ add-column : tie.Need-add-column Inv-loop μ-loop
 add-column c = omega (arith, c .before .before .before .before .loop .inv .wide, c .before .before .before .before .loop .inv .inside)
 
 loop-again : tie.Need-loop-again Inv-loop μ-loop
-loop-again c = ⊎-elim (λ w. rw (w .1, w .2) (line-feed _ _ _ _ _ (c .before .before .if1 .left) (c .before .before .before .loop-test .taken) (c .before .before .before .before .loop .inv) (w .0 .taken))) (λ w. rw (w .1, w .2) (line-more _ _ _ _ _ (c .before .before .if1 .left) (c .before .before .before .loop-test .taken) (c .before .before .before .before .loop .inv) (w .0 .left))) (c .if2 .came)
+loop-again c =
+    let c2 = c .before .before in
+    let c3 = c2 .before in
+    ⊎-elim (λ w. rw (w .1, w .2)
+    (line-feed _ _ _ _ _ (c2 .if1 .left) (c3 .loop-test .taken) (c3 .before .loop .inv) (w .0 .taken))) (λ w. rw (w .1, w .2)
+    (line-more _ _ _ _ _ (c2 .if1 .left) (c3 .loop-test .taken) (c3 .before .loop .inv) (w .0 .left))) (c .if2 .came)
 
 returns-2 : tie.Need-returns-2 Inv-loop μ-loop
 returns-2 c = line-end _ _ _ _ _ (c .loop-test .left) (c .before .loop .inv)

@@ -1,3 +1,4 @@
+-- A `_` changes nothing; any other byte is a digit more.
 use Rattle.lexer.proofs.Count.{add-none, add-some}
 use borrow.Author.Needs.{needs}
 use Rattle.lexer.proofs.numbers.add_digit.Statement.{statement}

@@ -1,3 +1,4 @@
+-- The invariant `Counts`: the value so far, and that the digits left make the whole value of it.
 use mathlib.Core.Path.{sym, _∙_}
 use Prim.Native.Nat.{_-_}
 use lib.ListN.{length}
@@ -19,7 +20,10 @@ returns : tie.Need-returns Inv-loop μ-loop
 returns c = count-stop _ _ _ _ _ (c .before .before .before .loop-test .taken) (sym (c .before .digit-step .ensures) ∙ c .if1 .taken) (c .before .before .before .before .loop .inv)
 
 loop-again : tie.Need-loop-again Inv-loop μ-loop
-loop-again c = count-more _ _ _ (c .before .before .before .before .before .loop .q) _ _ _ (c .before .before .before .before .loop-test .taken) (c .before .before .digit-step .ensures) (c .before .if1 .left) (c .before .before .before .before .before .loop .inv) (c .add-digit .ensures)
+loop-again c =
+    let c2 = c .before .before in
+    let c4 = c2 .before .before in
+    count-more _ _ _ (c4 .before .loop .q) _ _ _ (c4 .loop-test .taken) (c2 .digit-step .ensures) (c .before .if1 .left) (c4 .before .loop .inv) (c .add-digit .ensures)
 
 returns-2 : tie.Need-returns-2 Inv-loop μ-loop
 returns-2 c = count-out _ _ _ _ _ (c .loop-test .left) (c .before .loop .inv)

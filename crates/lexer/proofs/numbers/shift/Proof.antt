@@ -1,3 +1,4 @@
+-- Ten times the value and the digit fit 64 bits exactly where the code's two tests say so.
 use native.Mathlib.Omega.{arith}
 use Rattle.lexer.proofs.Count.{shift-fits, shift-over, shift-still}
 use borrow.Author.Needs.{needs}

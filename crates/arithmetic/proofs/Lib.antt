@@ -1,0 +1,13 @@
+pub mod Bits
+pub mod Columns
+pub mod Decimals
+pub mod Digits16
+pub mod Folds
+pub mod Halves
+pub mod Integers
+pub mod Nearest
+pub mod Numerals
+pub mod Powers
+pub mod Scale
+pub mod Scans
+pub mod Widen

@@ -1,0 +1,13 @@
+-- By the parts of the state.
+-- Assumes nothing.
+use borrow.Author.Needs.{needs}
+use Rattle.arithmetic.specs.Numerals.{wholePushed}
+use Rattle.arithmetic.proofs.numeral.whole_digit.Statement.{statement}
+use Rattle.arithmetic.proofs.numeral.whole_digit.Tie as tie
+
+returns : tie.Need-returns
+unfolding wholePushed
+returns c = simp (c .before .push .ensures, c .digit .ensures)
+
+pub whole-digit-spec : {M : Type 1} → statement M
+whole-digit-spec = tie.close (tie.spec (λ c κs. search needs) (λ c κs. search needs) returns)

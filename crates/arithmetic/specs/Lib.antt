@@ -1,0 +1,6 @@
+pub mod Decimals
+pub mod Folds
+pub mod Hex
+pub mod Integers
+pub mod Literals
+pub mod Numerals

@@ -1,2 +1,0 @@
-pub mod Clause
-pub mod Opcodes

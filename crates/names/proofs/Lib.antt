@@ -1,0 +1,3 @@
+pub mod Strings
+mod Letters
+pub mod Passed

@@ -1,4 +1,0 @@
-pub mod Tests
-pub mod Scans
-pub mod Reads
-pub mod Constants

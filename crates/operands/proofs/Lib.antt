@@ -1,0 +1,4 @@
+pub mod Twice
+pub mod OperandLaws
+pub mod RichLaws
+pub mod LabelLaws

@@ -1,0 +1,5 @@
+pub mod Dry
+pub mod Found
+pub mod Kept
+pub mod Rich
+pub mod Trailing

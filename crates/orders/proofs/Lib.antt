@@ -1,2 +1,0 @@
-pub mod Twice
-pub mod PartLaws

@@ -1,4 +1,0 @@
-pub mod Dry
-pub mod Found
-pub mod Kept
-pub mod Parts

@@ -1,0 +1,232 @@
+-- The full reading, piece by piece.
+-- A step of the loop is one unfolding of `blocks` and of `judge`, and each piece is written where the last ended.
+-- Assumes nothing.
+use mathlib.Core.Path.{_≡_, refl, sym, ap, _∙_}
+use mathlib.Core.Bool.{Bool, true, false}
+use mathlib.Core.List.{List, [], _∷_, _++_, append-nil}
+use Prim.Native.Nat.{ℕ, _+_, _-_, _*_, _≤_}
+use native.Mathlib.Nat.{add-zero, zero-add}
+use native.Mathlib.Omega.{arith}
+use lib.Dec.{leb}
+use borrow.Author.Tests.{leb-true}
+use lib.ListN.{length, take, drop, set, replicate, length-drop, take-append-drop}
+use lib.Seq.{drop-drop}
+use Rattle.records.specs.Words.{pack}
+use Rattle.records.specs.Pieces.{head, badHead, block, tail, badBlock, done, stop, item, Verdict, fine, refused, textAsked, reading, blocks, leave, left, count, refusedAt, pad}
+use Rattle.theorem_edits.specs.Law.{Grammar, blocks-block, blocks-tail, blocks-bad}
+use Rattle.theorem_edits.specs.Programs.{grammar}
+use Rattle.grammar.specs.Body.{parseHead, parseBlock}
+use Rattle.grammar.specs.Function.{headAt, blockAt, readingOf}
+use Rattle.theorem_edits.specs.Again.{block-moves}
+use Rattle.directory.specs.Answers.{roomOf, afterRoom}
+use Rattle.directory.specs.Place.{fullThen, readSize, readWords, readEntries}
+use Rattle.directory.specs.declared.rooms.Room.the-variants.{Fits}
+use Rattle.directory.proofs.Judge.{Fitting, fitting}
+use Rattle.directory.proofs.Place.{words-snoc, entries-snoc, entries-length}
+use Rattle.directory.proofs.Final.{Put, put-first, put-next, put-taken, full-left, full-text, full-is}
+use Rattle.passes.proofs.Again.{ReadFull, full-first, full-more, full-no-words, full-no-entry, full-refuses, full-all}
+use Rattle.passes.specs.Parts.{Within, Stands}
+use Rattle.passes.specs.Full.{pieces, said, Come, Whole, Stopped, Ended}
+use Rattle.passes.specs.declared.full.Written.{Written}
+use Rattle.passes.proofs.Stretch.{decide}
+
+-- The readers of one piece have what demand 3 asks of them.
+pub laws : Grammar headAt blockAt
+unfolding headAt blockAt
+laws = grammar parseHead parseBlock block-moves
+
+-- the head
+head-is : (text : List ℕ) (e : ℕ) (ws : List ℕ) → headAt text ≡ head e ws → pieces text ≡ item e ws (blocks headAt blockAt (drop e text))
+unfolding reading
+head-is text e ws h = rw (reading, h)
+
+head-bad : (text : List ℕ) (q p : ℕ) → headAt text ≡ badHead q p → pieces text ≡ stop q p
+unfolding reading
+head-bad text q p h = rw (reading, h)
+
+-- an entry put behind others
+put-entries : (i x y : ℕ) (front dir dir2 : List ℕ) → take (i * 2) dir ≡ front → i * 2 + 2 ≤ length dir → dir2 ≡ set (set dir (i * 2) x) (i * 2 + 1) y
+    → (take ((i + 1) * 2) dir2 ≡ front ++ (x ∷ y ∷ [])) × (length dir2 ≡ length dir)
+put-entries i x y front dir dir2 t h e =
+    let g : Put (take (i * 2) dir ++ (x ∷ y ∷ [])) dir (i + 1) dir2 = put-next (take (i * 2) dir) dir i x y dir dir2 (put-first dir i (omega arith)) h e in
+    (put-taken (take (i * 2) dir ++ (x ∷ y ∷ [])) dir (i + 1) dir2 g ∙ rw t, g .long)
+
+module _ (text : List ℕ) (W D : ℕ) where
+  start : ReadFull W D (said W D text) (pieces text) [] (pieces text) 0 0 0
+  start = full-first W D (pieces text)
+
+  -- ---- the head
+  pub no-head : (q p : ℕ) (words dir : List ℕ) → headAt text ≡ badHead q p → length words ≡ W → length dir ≡ D → Stopped text W D q p words dir
+  no-head q p words dir h lw ld = record { is = full-refuses start q p (head-bad text q p h) ∙ ap (refused q) (zero-add p); long-words = lw; long-dir = ld }
+
+  module _ (e n : ℕ) (words0 words dir : List ℕ) (g : Stands (λ ws. headAt text ≡ head e ws) n 0 W words0 words) (lw : length words0 ≡ W) (ld : length dir ≡ D) where
+    pub head-inside : e ≤ length text
+    head-inside = laws .head-fits text e (g .ws) (g .is)
+
+    pub head-room : (q p : ℕ) → ((v : Verdict) → afterRoom (roomOf W D 0 0 n) (0 + e) v ≡ refused q p) → Stopped text W D q p words dir
+    head-room q p h =
+        let it : pieces text ≡ item e (g .ws) (blocks headAt blockAt (drop e text)) = head-is text e (g .ws) (g .is) in
+        record {
+          is = decide (roomOf W D 0 0 n) (0 + e) q p (said W D text) h
+              (λ r. full-no-words start e (g .ws) (blocks headAt blockAt (drop e text)) it (rw (← g .many) r))
+              (λ r. full-no-entry start e (g .ws) (blocks headAt blockAt (drop e text)) it (rw (← g .many) r));
+          long-words = g .within .long ∙ lw;
+          long-dir = ld;
+        }
+
+    pub head-come : (dir2 : List ℕ) → roomOf W D 0 0 n ≡ Fits → dir2 ≡ set (set dir 0 (pack 0 e)) 1 (pack 0 n) → Come text W D 1 e n words dir2
+    unfolding fullThen readSize readWords readEntries
+    head-come dir2 f d =
+        let it : pieces text ≡ item e (g .ws) (blocks headAt blockAt (drop e text)) = head-is text e (g .ws) (g .is) in
+        let k : Fitting W D 0 0 n = fitting W D 0 0 n f in
+        let m : ReadFull W D (said W D text) (pieces text) ((e, g .ws) ∷ []) (blocks headAt blockAt (drop e text)) 1 (0 + e) (0 + length (g .ws)) =
+        full-more start e (g .ws) (blocks headAt blockAt (drop e text)) it (rw (← g .many) f) in
+        let p : (take ((0 + 1) * 2) dir2 ≡ [] ++ (pack 0 e ∷ pack 0 n ∷ [])) × (length dir2 ≡ length dir) = put-entries 0 (pack 0 e) (pack 0 n) [] dir dir2 refl (omega (arith, k .entry)) d in
+        record {
+          fs = (e, g .ws) ∷ [];
+          run = m .run;
+          verdict = rw (zero-add e, zero-add (length (g .ws)), ← g .many) at (m .verdict);
+          number = refl;
+          place = sym (add-zero e);
+          first = g .many ∙ ap length (sym (append-nil (g .ws)));
+          inside = head-inside;
+          in-words = omega (arith, k .in-words);
+          small = omega (arith, k .small);
+          in-dir = omega (arith, k .entry);
+          long-words = g .within .long ∙ lw;
+          long-dir = p .1 ∙ ld;
+          words-are = rw (zero-add n) at (g .stands (omega (arith, k .in-words))) ∙ sym (append-nil (g .ws));
+          entries-are = p .0 ∙ rw (g .many);
+        }
+
+  -- ---- a block, the tail
+  module _ (i pos at : ℕ) (words0 dir : List ℕ) (c : Come text W D i pos at words0 dir) where
+    read : ReadFull W D (said W D text) (pieces text) (c .fs) (blocks headAt blockAt (drop pos text)) i pos at
+    read = record { run = c .run; verdict = c .verdict; number = c .number; place = c .place; first = c .first }
+
+    long : length (drop pos text) ≡ length text - pos
+    long = length-drop pos text
+
+    pub block-bad : (q p : ℕ) (words : List ℕ) → blockAt (drop pos text) ≡ badBlock q p → length words ≡ length words0 → Stopped text W D q (pos + p) words dir
+    block-bad q p words b lw = record { is = full-refuses read q p (blocks-bad headAt blockAt laws (drop pos text) q p b); long-words = lw ∙ c .long-words; long-dir = c .long-dir }
+
+    module _ (e : ℕ) (words : List ℕ) (b : blockAt (drop pos text) ≡ tail e) (w : Within at W words0 words) where
+      tail-item : blocks headAt blockAt (drop pos text) ≡ item e [] done
+      tail-item = blocks-tail headAt blockAt laws (drop pos text) e b
+
+      pub tail-inside : pos + e ≤ length text
+      tail-inside = omega (arith, laws .tail-fits (drop pos text) e b, long, c .inside)
+
+      pub tail-room : (q p : ℕ) → ((v : Verdict) → afterRoom (roomOf W D i at 0) (pos + e) v ≡ refused q p) → Stopped text W D q p words dir
+      tail-room q p h =
+          record {
+            is = decide (roomOf W D i at 0) (pos + e) q p (said W D text) h (full-no-words read e [] done tail-item) (full-no-entry read e [] done tail-item);
+            long-words = w .long ∙ c .long-words;
+            long-dir = c .long-dir;
+          }
+
+      pub tail-whole : (dir2 : List ℕ) → roomOf W D i at 0 ≡ Fits → dir2 ≡ set (set dir (i * 2) (pack pos e)) (i * 2 + 1) (pack at 0) → Whole text W D (i + 1) at words dir2
+      tail-whole dir2 f d =
+          let k : Fitting W D i at 0 = fitting W D i at 0 f in
+          let m : ReadFull W D (said W D text) (pieces text) (c .fs ++ ((e, []) ∷ [])) done (i + 1) (pos + e) (at + 0) = full-more read e [] done tail-item f in
+          let a : (pieces text ≡ fullThen (c .fs ++ ((e, []) ∷ [])) done) × (said W D text ≡ fine) = full-all m refl in
+          let p : (take ((i + 1) * 2) dir2 ≡ readEntries 0 0 (c .fs) ++ (pack pos e ∷ pack at 0 ∷ [])) × (length dir2 ≡ length dir) =
+          put-entries i (pack pos e) (pack at 0) (readEntries 0 0 (c .fs)) dir dir2 (c .entries-are) (omega (arith, k .entry, c .long-dir)) d in
+          record {
+            fs = c .fs ++ ((e, []) ∷ []);
+            run = a .0;
+            is-fine = a .1;
+            number = m .number;
+            first = sym (add-zero at) ∙ m .first;
+            in-dir = omega (arith, k .entry);
+            long-words = w .long ∙ c .long-words;
+            long-dir = p .1 ∙ c .long-dir;
+            words-are = w .front ∙ c .words-are ∙ sym (words-snoc (c .fs) e [] ∙ append-nil (readWords (c .fs)));
+            entries-are = p .0 ∙ sym (entries-snoc 0 0 (c .fs) e [] ∙ rw (zero-add (readSize (c .fs)), zero-add (length (readWords (c .fs))), ← c .place, ← c .first));
+          }
+
+    module _ (e n : ℕ) (words : List ℕ) (g : Stands (λ ws. blockAt (drop pos text) ≡ block e ws) n at W words0 words) where
+      block-item : blocks headAt blockAt (drop pos text) ≡ item e (g .ws) (blocks headAt blockAt (drop (pos + e) text))
+      block-item = blocks-block headAt blockAt laws (drop pos text) e (g .ws) (g .is) ∙ ap (λ (s : List ℕ). item e (g .ws) (blocks headAt blockAt s)) (drop-drop e pos text)
+
+      pub block-inside : pos + e ≤ length text
+      block-inside = omega (arith, laws .block-fits (drop pos text) e (g .ws) (g .is), long, c .inside)
+
+      pub block-on : 1 ≤ e
+      block-on = laws .block-moves (drop pos text) e (g .ws) (g .is)
+
+      pub block-room : (q p : ℕ) → ((v : Verdict) → afterRoom (roomOf W D i at n) (pos + e) v ≡ refused q p) → Stopped text W D q p words dir
+      block-room q p h =
+          record {
+            is = decide (roomOf W D i at n) (pos + e) q p (said W D text) h
+                (λ r. full-no-words read e (g .ws) (blocks headAt blockAt (drop (pos + e) text)) block-item (rw (← g .many) r))
+                (λ r. full-no-entry read e (g .ws) (blocks headAt blockAt (drop (pos + e) text)) block-item (rw (← g .many) r));
+            long-words = g .within .long ∙ c .long-words;
+            long-dir = c .long-dir;
+          }
+
+      pub block-come : (dir2 : List ℕ) → roomOf W D i at n ≡ Fits → dir2 ≡ set (set dir (i * 2) (pack pos e)) (i * 2 + 1) (pack at n) → Come text W D (i + 1) (pos + e) (at + n) words dir2
+      block-come dir2 f d =
+          let k : Fitting W D i at n = fitting W D i at n f in
+          let m : ReadFull W D (said W D text) (pieces text) (c .fs ++ ((e, g .ws) ∷ [])) (blocks headAt blockAt (drop (pos + e) text)) (i + 1) (pos + e) (at + length (g .ws)) =
+          full-more read e (g .ws) (blocks headAt blockAt (drop (pos + e) text)) block-item (rw (← g .many) f) in
+          let p : (take ((i + 1) * 2) dir2 ≡ readEntries 0 0 (c .fs) ++ (pack pos e ∷ pack at n ∷ [])) × (length dir2 ≡ length dir) =
+          put-entries i (pack pos e) (pack at n) (readEntries 0 0 (c .fs)) dir dir2 (c .entries-are) (omega (arith, k .entry, c .long-dir)) d in
+          record {
+            fs = c .fs ++ ((e, g .ws) ∷ []);
+            run = m .run;
+            verdict = rw (← g .many) at (m .verdict);
+            number = m .number;
+            place = m .place;
+            first = rw (← g .many) at (m .first);
+            inside = block-inside;
+            in-words = k .in-words;
+            small = k .small;
+            in-dir = omega (arith, k .entry);
+            long-words = g .within .long ∙ c .long-words;
+            long-dir = p .1 ∙ c .long-dir;
+            words-are = g .stands (k .in-words) ∙ ap {B = List ℕ} (λ t. t ++ g .ws) (c .words-are) ∙ sym (words-snoc (c .fs) e (g .ws));
+            entries-are = p .0 ∙ sym (entries-snoc 0 0 (c .fs) e (g .ws) ∙ rw (zero-add (readSize (c .fs)), zero-add (length (readWords (c .fs))), ← c .place, ← c .first, ← g .many));
+          }
+
+-- ---- the call
+pub refused-text : (W D : ℕ) (text : List ℕ) (q p : ℕ) → refused q p ≡ textAsked text → left (refusedAt q p) (pad W []) (pad D []) ≡ readingOf W D text
+unfolding readingOf
+refused-text W D text q p h = sym (full-text headAt blockAt W D text q p (sym h))
+
+pub refused-stopped : (W D : ℕ) (text : List ℕ) (q p : ℕ) (words dir : List ℕ) → fine ≡ textAsked text → Stopped text W D q p words dir → left (refusedAt q p) (pad (length words) []) (pad (length dir) []) ≡ readingOf W D text
+unfolding readingOf leave
+refused-stopped W D text q p words dir h g = sym (full-is headAt blockAt W D text (sym h) ∙ rw (g .is, g .long-words, g .long-dir))
+
+pub accepted : (W D : ℕ) (text : List ℕ) (i at : ℕ) (words dir words2 dir2 : List ℕ) → fine ≡ textAsked text → Whole text W D i at words dir
+    → words2 ≡ take at words ++ replicate (length words - at) 0 → dir2 ≡ take (i * 2) dir ++ replicate (length dir - i * 2) 0
+    → left (count i) words2 dir2 ≡ readingOf W D text
+unfolding readingOf
+accepted W D text i at words dir words2 dir2 h g ew ed =
+    let p : Put (readEntries 0 0 (g .fs)) dir (length (g .fs)) dir =
+    record {
+      list = sym (take-append-drop (length (g .fs) * 2) dir) ∙ rw (← g .number, g .entries-are);
+      many = entries-length 0 0 (g .fs);
+      long = refl;
+    } in
+    sym
+    (full-is headAt blockAt W D text (sym h)
+    ∙ rw (g .is-fine)
+    (full-left W D (g .fs) (pieces text) words words2 dir dir dir2 (g .run) (g .long-words) (rw (← g .first) (g .words-are)) (rw (← g .first) ew) (g .long-dir) p (rw (← g .number) ed)
+    ∙ rw (← g .number)))
+
+-- ---- between calls
+pub come-own : (text : List ℕ) (W D i pos at : ℕ) (words dir : List ℕ) → Come text W D i pos at words dir → Come text (length words) (length dir) i pos at words dir
+come-own text W D i pos at words dir c = rw (c .long-words, c .long-dir) c
+
+pub ended-as : (text : List ℕ) (W W2 D D2 : ℕ) (words dir : List ℕ) (r : Written) → W2 ≡ W → D2 ≡ D → Ended text W2 D2 words dir r → Ended text W D words dir r
+ended-as text W W2 D D2 words dir r e f h = rw (← e, ← f) h
+
+-- question 1
+pub not-long : (text : List ℕ) → fine ≡ textAsked text → length text ≤ 16777216
+unfolding textAsked
+not-long text h = go (leb (length text) 16777216) refl
+  where
+    go : (b : Bool) → leb (length text) 16777216 ≡ b → length text ≤ 16777216
+    go true t = leb-true (length text) 16777216 t
+    go false t = let w : fine ≡ refused 1 16777216 = rw (textAsked, t) at h in let z : _≡_ {A = ℕ} 0 1 = cc in absurd (omega arith)

@@ -1,0 +1,5 @@
+pub mod Parts
+pub mod Full
+pub mod Numbered
+pub mod First
+pub mod Second

@@ -1,0 +1,158 @@
+// The first pass: which pieces are read, and which old ones are kept behind them. All questions are asked, and nothing is written.
+use crate::numbered::piece_dry;
+use crate::parts::ask;
+use directory::older::Edit;
+use directory::older::Found;
+use directory::older::Older;
+use directory::older::join_old;
+use directory::pieces::Piece;
+use directory::pieces::Size;
+use directory::pieces::Spot;
+use directory::rooms::Lent;
+use directory::rooms::room_kept;
+use texts::Verdict;
+ghost use mathlib.Core.Path.{_≡_};
+ghost use Prim.Native.Nat.{_+_};
+ghost use Rattle.records.specs.Pieces.{commonEnd, common};
+ghost use Rattle.lexer.specs.Table.{Classes};
+ghost use Rattle.directory.specs.Olds.{oldsOf, FrontIs};
+ghost use Rattle.passes.specs.First.{Given, Took, Follows, Ends};
+
+// What the pass goes by, beside texts and directory: the length of the texts' common end, how many words are lent, and how many entries.
+pub struct Known {
+    pub end: usize,
+    pub words: usize,
+    pub entries: usize,
+}
+
+// How the pass ends: what is read ends there, and the old pieces from that number on are kept behind it; or a refusal.
+pub enum Plan {
+    Keep(Spot, usize),
+    Refused(u64, u64),
+}
+
+// What follows a piece: more are read, and old starts are looked for from that piece on; or the old ones from that number on are kept.
+enum Step {
+    More(usize),
+    Keep(usize),
+    Refused(u64, u64),
+}
+
+// Behind the piece there, which takes so much. Old starts are looked for from piece `from` on.
+fn follow(
+    older: &[u8],
+    newer: &[u8],
+    directory: &[u64],
+    known: Known,
+    spot: Spot,
+    size: Size,
+    from: usize,
+) -> Step
+    requires { ⌜ known .end ≡ commonEnd (now older) (now newer) ⌝ }
+    requires { ⌜ Given (now older) (now newer) (known .words) (known .entries) (now directory) ⌝ }
+    requires { ⌜ Took (now older) (now newer) (known .words) (known .entries) (now directory) (spot .number) (spot .pos) (spot .word) from (size .bytes) (size .words) ⌝ }
+    ensures { λ r. ⌜ Follows (now (older .entry)) (now (newer .entry)) (known .words) (known .entries) (now (directory .entry)) (spot .number + 1) (spot .pos + size .bytes) (spot .word + size .words) r ⌝ }
+{
+    let lent = Lent {
+        words: known.words,
+        directory: directory.len(),
+    };
+    let edit = Edit {
+        older: older.len(),
+        newer: newer.len(),
+        end: known.end,
+    };
+    let old = Older {
+        entries: known.entries,
+        words: known.words,
+    };
+    let end = spot.pos + size.bytes;
+    match ask(lent, spot, size) {
+        Verdict::Refused(q, p) => Step::Refused(q, p),
+        Verdict::Fine => match join_old(directory, known.entries, from, edit, end) {
+            Found::Nothing(f) => Step::More(f),
+            Found::At(f) => {
+                let next = Spot {
+                    number: spot.number + 1,
+                    pos: end,
+                    word: spot.word + size.words,
+                };
+                match room_kept(directory, old, f, next) {
+                    Verdict::Refused(q, p) => Step::Refused(q, p),
+                    Verdict::Fine => Step::Keep(f),
+                }
+            }
+        },
+    }
+}
+
+// What follows the pieces kept in front, which end there.
+pub fn read_dry(
+    classes: &[u8; 256],
+    older: &[u8],
+    newer: &[u8],
+    directory: &[u64],
+    known: Known,
+    front: Spot,
+) -> Plan
+    requires { ⌜ Classes (now classes) ⌝ }
+    requires { ⌜ known .end ≡ commonEnd (now older) (now newer) ⌝ }
+    requires { ⌜ Given (now older) (now newer) (known .words) (known .entries) (now directory) ⌝ }
+    requires { ⌜ FrontIs (common (now older) (now newer)) (oldsOf (known .entries) (now directory)) (front .number) (front .pos) (front .word) ⌝ }
+    ensures { λ r. ⌜ Ends (now (older .entry)) (now (newer .entry)) (known .words) (known .entries) (now (directory .entry)) r ⌝ }
+{
+    let entries = known.entries;
+    let lent = Lent {
+        words: known.words,
+        directory: directory.len(),
+    };
+    let mut number = front.number;
+    let mut pos = front.pos;
+    let mut word = front.word;
+    let mut from: usize = 1;
+    if number == entries {
+        return Plan::Keep(front, entries);
+    }
+    loop {
+        let spot = Spot { number, pos, word };
+        match piece_dry(classes, newer, spot) {
+            Piece::Refused(q, p) => return Plan::Refused(q, pos as u64 + p),
+            Piece::Tail(bytes) => match ask(lent, spot, Size { bytes, words: 0 }) {
+                Verdict::Refused(q, p) => return Plan::Refused(q, p),
+                Verdict::Fine => {
+                    let next = Spot {
+                        number: number + 1,
+                        pos: pos + bytes,
+                        word,
+                    };
+                    return Plan::Keep(next, entries);
+                }
+            },
+            Piece::Read(bytes, words) => match follow(
+                older,
+                newer,
+                directory,
+                known,
+                spot,
+                Size { bytes, words },
+                from,
+            ) {
+                Step::Refused(q, p) => return Plan::Refused(q, p),
+                Step::Keep(f) => {
+                    let next = Spot {
+                        number: number + 1,
+                        pos: pos + bytes,
+                        word: word + words,
+                    };
+                    return Plan::Keep(next, f);
+                }
+                Step::More(f) => {
+                    number += 1;
+                    pos += bytes;
+                    word += words;
+                    from = f;
+                }
+            },
+        }
+    }
+}

@@ -1,0 +1,47 @@
+-- The limits of 01's questions.
+-- Assumes nothing.
+use Prim.Native.Nat.{ℕ, _+_, _-_}
+
+-- question 1: the most bytes of a text
+abbrev pub textLimit : ℕ
+textLimit = 16777216
+
+-- question 2: the largest byte
+abbrev pub byteLimit : ℕ
+byteLimit = 127
+
+-- turns of a loop, more than a text has bytes: each takes a byte, so none runs out
+abbrev pub turns : ℕ
+turns = textLimit + 1
+
+-- question 15: the largest integer width
+abbrev pub widthLimit : ℕ
+widthLimit = 8388608
+
+-- question 15: the largest index
+abbrev pub indexLimit : ℕ
+indexLimit = 4294967295
+
+-- question 15: the largest other number
+abbrev pub numberLimit : ℕ
+numberLimit = 18446744073709551615
+
+-- question 16: the deepest level of types and values
+abbrev pub depthLimit : ℕ
+depthLimit = 64
+
+-- levels below an outermost type
+abbrev pub listDepth : ℕ
+listDepth = depthLimit - 1
+
+-- question 19: the most direct children of a node
+abbrev pub childLimit : ℕ
+childLimit = 65535
+
+-- turns of a list, each of which has a child: question 19 refuses before they run out
+abbrev pub listTurns : ℕ
+listTurns = childLimit + 1
+
+-- question 20: words end below it; half a word is below it
+abbrev pub halfLimit : ℕ
+halfLimit = 4294967296

@@ -1,0 +1,159 @@
+// `parse_switch`: the cases' integers are payload and stand first, the operand and the labels behind them.
+use lexer::Parsed;
+ghost use mathlib.Core.Path.{_≡_};
+ghost use mathlib.Core.List.{[], _∷_};
+ghost use lib.ListN.{length};
+ghost use Rattle.program.specs.Prog.{ret};
+ghost use Rattle.grammar.specs.Instructions.{caseInt, cases, switchCases, parseSwitch};
+ghost use Rattle.lexer.specs.Table.{Classes};
+ghost use Rattle.lexer.specs.Reads.{Leads, Gives, made, same};
+ghost use Rattle.operands.specs.Rich.{richly};
+ghost use Rattle.operands.specs.Kept.{kept, nothing};
+ghost use Rattle.terminators.specs.Switch.{takenP, stoppedP};
+
+// Word i of those that were written up to q.
+fn taken(words: &[u64], q: Parsed, i: usize) -> u64
+    ensures { λ r. ⌜ r ≡ takenP i q (now (words .entry)) ⌝ }
+{
+    match q {
+        Parsed::Ok(c) => {
+            if i < c.w {
+                if i < words.len() {
+                    return words[i];
+                }
+                return 0;
+            }
+            0
+        }
+        Parsed::Refused(e, x) => 0,
+    }
+}
+
+// A case's integer, as its two words.
+struct Case {
+    p: Parsed,
+    lo: u64,
+    hi: u64,
+}
+
+// A case's integer: the value is read into an array of its own.
+fn case_int(classes: &[u8; 256], text: &[u8], p: Parsed) -> Case
+    requires { ⌜ Classes (now classes) ⌝ }
+    ensures { λ r. ⌜ Gives caseInt (r .hi ∷ r .lo ∷ []) (now (text .entry)) p (r .p) ⌝ }
+{
+    let mut value: [u64; 3] = [0, 0, 0];
+    let z = writer::restart(p);
+    let q = operands::parse_operand(classes, text, &mut value, z);
+    let h = taken(&value, q, 0);
+    let hi = taken(&value, q, 1);
+    let lo = taken(&value, q, 2);
+    let q1 = writer::join(p, q);
+    if h == records::INT_HEADER {
+        return Case { p: q1, lo, hi };
+    }
+    let q2 = lexer::refuse(q1, records::Q_CASE);
+    Case { p: q2, lo, hi }
+}
+
+// Was the reader refused? No byte ends the list of cases then, so this does.
+fn stopped(p: Parsed) -> bool
+    ensures { λ r. ⌜ r ≡ stoppedP p ⌝ }
+{
+    match p {
+        Parsed::Ok(c) => false,
+        Parsed::Refused(e, q) => true,
+    }
+}
+
+// So many children there are with the labels of the cases.
+struct Cases {
+    p: Parsed,
+    n: u16,
+}
+
+// The cases through the `]`, their integers written.
+fn switch_ints(classes: &[u8; 256], text: &[u8], words: &mut [u64], p: Parsed) -> Cases
+    requires { ⌜ Classes (now classes) ⌝ }
+    ensures { λ r. ⌜ Leads (switchCases 65536 3 [] []) 0 [] (kept (λ labels ints. ret (cases (r .n) ints labels)) length (now (text .entry)) p) (now (text .entry)) p p (now (words .entry)) (r .p) (now (words .exit)) ⌝ }
+{
+    let mut q = p;
+    let mut left: usize = records::LIST_TURNS;
+    let mut n: u16 = 3;
+    while 0 < left {
+        let q1 = lexer::eat_ws(classes, text, q);
+        if lexer::looks(text, q1, b']') {
+            let q2 = lexer::pass(text, q1, 1);
+            return Cases { p: q2, n };
+        }
+        let c = case_int(classes, text, q1);
+        let q2 = c.p;
+        let t = operands::target(classes, text, q2);
+        let q3 = t.p;
+        let q4 = lexer::count_child(q3, n);
+        if stopped(q4) {
+            return Cases { p: q4, n };
+        }
+        let q5 = writer::push(words, q4, c.hi);
+        q = writer::push(words, q5, c.lo);
+        left -= 1;
+        n = types::one_more(n);
+    }
+    let q1 = lexer::refuse(q, records::Q_CHILDREN);
+    Cases { p: q1, n }
+}
+
+// The cases through the `]`, their labels written.
+fn switch_labels(classes: &[u8; 256], text: &[u8], words: &mut [u64], p: Parsed) -> Cases
+    requires { ⌜ Classes (now classes) ⌝ }
+    ensures { λ r. ⌜ Leads (switchCases 65536 3 [] []) 0 [] (kept (λ ints labels. ret (cases (r .n) ints labels)) nothing (now (text .entry)) p) (now (text .entry)) p p (now (words .entry)) (r .p) (now (words .exit)) ⌝ }
+{
+    let mut q = p;
+    let mut left: usize = records::LIST_TURNS;
+    let mut n: u16 = 3;
+    while 0 < left {
+        let q1 = lexer::eat_ws(classes, text, q);
+        if lexer::looks(text, q1, b']') {
+            let q2 = lexer::pass(text, q1, 1);
+            return Cases { p: q2, n };
+        }
+        let c = case_int(classes, text, q1);
+        let q2 = c.p;
+        let t = operands::target(classes, text, q2);
+        let q3 = t.p;
+        let q4 = lexer::count_child(q3, n);
+        if stopped(q4) {
+            return Cases { p: q4, n };
+        }
+        q = operands::label_node(words, q4, t.v);
+        left -= 1;
+        n = types::one_more(n);
+    }
+    let q1 = lexer::refuse(q, records::Q_CHILDREN);
+    Cases { p: q1, n }
+}
+
+// `switch T V, label %d [ T V, label %a .. ]`
+pub fn parse_switch(classes: &[u8; 256], text: &[u8], words: &mut [u64], p: Parsed) -> Parsed
+    requires { ⌜ Classes (now classes) ⌝ }
+    ensures { λ r. ⌜ Leads parseSwitch 3 [] (richly (now (text .entry)) (made same (now (text .entry)) p)) (now (text .entry)) p p (now (words .entry)) r (now (words .exit)) ⌝ }
+{
+    let p1 = writer::push(words, p, 0);
+    let q = operands::pass_typed_val(classes, text, p1);
+    let p2 = writer::join(p1, q);
+    let d = operands::target(classes, text, p2);
+    let p3 = d.p;
+    let p4 = lexer::expect_token(classes, text, p3, b'[');
+    let c = switch_ints(classes, text, words, p4);
+    let p5 = c.p;
+    let t = operands::parse_trailing(classes, text, p5);
+    let p6 = t.p;
+    let z = operands::resume(p6, p1);
+    let z1 = values::parse_typed_val(classes, text, words, z, records::DEPTH_LIMIT);
+    let p7 = operands::resume(z1, p6);
+    let p8 = operands::label_node(words, p7, d.v);
+    let z2 = operands::resume(p8, p4);
+    let l = switch_labels(classes, text, words, z2);
+    let z3 = l.p;
+    let p9 = operands::resume(z3, p8);
+    writer::close(words, p, p9, records::K_SWITCH, 0, c.n)
+}

@@ -1,0 +1,5 @@
+pub mod Law
+pub mod Same
+pub mod Programs
+pub mod Older
+pub mod Again

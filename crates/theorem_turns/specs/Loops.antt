@@ -1,0 +1,150 @@
+-- Each loop does the same with u turns as with v, on texts of less bytes than either: a turn that comes back to the loop has taken a byte.
+-- Assumes nothing.
+use mathlib.Core.Path.{refl}
+use mathlib.Core.List.{List, [], _∷_, _++_}
+use mathlib.Core.Option.{Option, some}
+use Prim.Native.Nat.{ℕ, zero, suc, _+_, _≤_}
+use native.Mathlib.Omega.{arith}
+use Rattle.program.specs.Prog.{Prog}
+use Rattle.grammar.specs.Lexer.{eatWs, sameWord, rank, skipAll, skipParens, skipMetadataRef, place}
+use Rattle.grammar.specs.Numbers.{parseInt}
+use Rattle.grammar.specs.Attributes.{flagAttrs, parenAttrs, arithFlags, fastMathFlags, convFlags, skipAttrsIn}
+use Rattle.grammar.specs.Types.{TypeOut, ptrWords, optAddrspace, parseTypeList, suffixes}
+use Rattle.grammar.specs.Values.{pairChild, parseGepFlags, parseTypedVal}
+use Rattle.grammar.specs.Instructions.{parseTrailingIn, allocaRest, gepInstIndices}
+use Rattle.grammar.specs.Body.{Statement, label, instruction, terminator, parseStatement, finishBlock, overAt, parseBody}
+use Rattle.theorem_turns.specs.Same.{Same, Full, alike, no-text, scans, ends, then, then-moved, by-byte, by-byte-at, by-word, byte-taken, token-taken, word-taken, rank-taken}
+use Rattle.theorem_edits.specs.Again.{statement-moves}
+
+-- The tables.
+full-parenAttrs : Full parenAttrs
+unfolding parenAttrs rank sameWord
+full-parenAttrs = refl
+
+full-flagAttrs : Full flagAttrs
+unfolding flagAttrs rank sameWord
+full-flagAttrs = refl
+
+pub full-arithFlags : Full arithFlags
+unfolding arithFlags rank sameWord
+full-arithFlags = refl
+
+pub full-fastMathFlags : Full fastMathFlags
+unfolding fastMathFlags rank sameWord
+full-fastMathFlags = refl
+
+pub full-convFlags : Full convFlags
+unfolding convFlags rank sameWord
+full-convFlags = refl
+
+-- The loops.
+pub same-skipAll : (n u v : ℕ) (table : List (List ℕ)) → Full table → n ≤ u → n ≤ v → Same n (skipAll u table) (skipAll v table)
+unfolding skipAll
+same-skipAll zero u v table f a b = no-text
+same-skipAll (suc n) zero v table f a b = absurd (omega arith)
+same-skipAll (suc n) (suc u) zero table f a b = absurd (omega arith)
+same-skipAll (suc n) (suc u) (suc v) table f a b =
+    then eatWs λ _. rank-taken table f (λ r. same-skipAll n u v table f (omega arith) (omega arith)) alike
+
+pub same-skipAttrsIn : (n u v : ℕ) → n ≤ u → n ≤ v → Same n (skipAttrsIn u) (skipAttrsIn v)
+unfolding skipAttrsIn
+same-skipAttrsIn zero u v a b = no-text
+same-skipAttrsIn (suc n) zero v a b = absurd (omega arith)
+same-skipAttrsIn (suc n) (suc u) zero a b = absurd (omega arith)
+same-skipAttrsIn (suc n) (suc u) (suc v) a b =
+    let again : Same n (skipAttrsIn u) (skipAttrsIn v) = same-skipAttrsIn n u v (omega arith) (omega arith) in
+    then eatWs λ _.
+    byte-taken _ (scans λ w. again)
+    (by-byte-at 34 alike
+    (rank-taken parenAttrs full-parenAttrs (λ r. then skipParens λ _. again)
+    (word-taken _ _ (then eatWs λ _. then (parseInt _ _) λ _. again)
+    (rank-taken flagAttrs full-flagAttrs (λ r. again) alike))))
+
+pub same-parseTrailingIn : (n u v : ℕ) (align : List ℕ) → n ≤ u → n ≤ v → Same n (parseTrailingIn u align) (parseTrailingIn v align)
+unfolding parseTrailingIn
+same-parseTrailingIn zero u v align a b = no-text
+same-parseTrailingIn (suc n) zero v align a b = absurd (omega arith)
+same-parseTrailingIn (suc n) (suc u) zero align a b = absurd (omega arith)
+same-parseTrailingIn (suc n) (suc u) (suc v) align a b =
+    let again : (align : List ℕ) → Same n (parseTrailingIn u align) (parseTrailingIn v align) = λ align. same-parseTrailingIn n u v align (omega arith) (omega arith) in
+    token-taken _
+    (then eatWs λ _.
+    by-word _ (then eatWs λ _. then (parseInt _ _) λ m. again (m ∷ []))
+    (by-byte _ (then skipMetadataRef λ _. again align) alike))
+    alike
+
+pub same-allocaRest : (n u v : ℕ) (count : Option (List ℕ)) (align : List ℕ) → n ≤ u → n ≤ v → Same n (allocaRest u count align) (allocaRest v count align)
+unfolding allocaRest
+same-allocaRest zero u v count align a b = no-text
+same-allocaRest (suc n) zero v count align a b = absurd (omega arith)
+same-allocaRest (suc n) (suc u) zero count align a b = absurd (omega arith)
+same-allocaRest (suc n) (suc u) (suc v) count align a b =
+    let again : (count : Option (List ℕ)) (align : List ℕ) → Same n (allocaRest u count align) (allocaRest v count align) = λ count align. same-allocaRest n u v count align (omega arith) (omega arith) in
+    token-taken _
+    (then eatWs λ _.
+    by-word _ (then eatWs λ _. then (parseInt _ _) λ m. again count (m ∷ []))
+    (by-byte _ (then skipMetadataRef λ _. again count align)
+    (then (parseTypedVal _) λ x. again (some x) align)))
+    alike
+
+pub same-gepInstIndices : (n u v k : ℕ) (acc : List ℕ) → n ≤ u → n ≤ v → Same n (gepInstIndices u k acc) (gepInstIndices v k acc)
+unfolding gepInstIndices
+same-gepInstIndices zero u v k acc a b = no-text
+same-gepInstIndices (suc n) zero v k acc a b = absurd (omega arith)
+same-gepInstIndices (suc n) (suc u) zero k acc a b = absurd (omega arith)
+same-gepInstIndices (suc n) (suc u) (suc v) k acc a b =
+    let again : (k : ℕ) (acc : List ℕ) → Same n (gepInstIndices u k acc) (gepInstIndices v k acc) = λ k acc. same-gepInstIndices n u v k acc (omega arith) (omega arith) in
+    token-taken _
+    (then eatWs λ _.
+    by-byte _ (then skipMetadataRef λ _. again k acc)
+    (then (pairChild _ _ k) λ x. again (k + 2) (acc ++ x)))
+    alike
+
+pub same-parseGepFlags : (n u v inbounds : ℕ) → n ≤ u → n ≤ v → Same n (parseGepFlags u inbounds) (parseGepFlags v inbounds)
+unfolding parseGepFlags
+same-parseGepFlags zero u v inbounds a b = no-text
+same-parseGepFlags (suc n) zero v inbounds a b = absurd (omega arith)
+same-parseGepFlags (suc n) (suc u) zero inbounds a b = absurd (omega arith)
+same-parseGepFlags (suc n) (suc u) (suc v) inbounds a b =
+    let again : (inbounds : ℕ) → Same n (parseGepFlags u inbounds) (parseGepFlags v inbounds) = λ inbounds. same-parseGepFlags n u v inbounds (omega arith) (omega arith) in
+    then eatWs λ _.
+    word-taken _ _ (again 1)
+    (word-taken _ _ (again inbounds)
+    (word-taken _ _ (again inbounds)
+    (word-taken _ _ (then skipParens λ _. again inbounds)
+    alike)))
+
+pub same-suffixes : (n u v bad : ℕ) (elem : Prog TypeOut) (t : List ℕ) → n ≤ u → n ≤ v → Same n (suffixes u bad elem t) (suffixes v bad elem t)
+unfolding suffixes
+same-suffixes zero u v bad elem t a b = no-text
+same-suffixes (suc n) zero v bad elem t a b = absurd (omega arith)
+same-suffixes (suc n) (suc u) zero bad elem t a b = absurd (omega arith)
+same-suffixes (suc n) (suc u) (suc v) bad elem t a b =
+    let again : Same n (suffixes u bad elem ptrWords) (suffixes v bad elem ptrWords) = same-suffixes n u v bad elem ptrWords (omega arith) (omega arith) in
+    then eatWs λ _. then place λ j.
+    byte-taken _ (then (parseTypeList bad elem) λ l. then eatWs λ _. by-byte _ again alike)
+    (then optAddrspace λ _. byte-taken _ again alike)
+
+pub same-parseBody : (n u v l k over : ℕ) (acc : List ℕ) → n ≤ u → n ≤ v → Same n (parseBody u l k over acc) (parseBody v l k over acc)
+unfolding parseBody
+same-parseBody zero u v l k over acc a b = no-text
+same-parseBody (suc n) zero v l k over acc a b = absurd (omega arith)
+same-parseBody (suc n) (suc u) zero l k over acc a b = absurd (omega arith)
+same-parseBody (suc n) (suc u) (suc v) l k over acc a b =
+    then eatWs λ _. ends (then-moved parseStatement statement-moves λ s. then place λ j. behind s j λ l k over acc. same-parseBody n u v l k over acc (omega arith) (omega arith))
+  where
+    behind : (s : Statement) (j : ℕ) → ((l k over : ℕ) (acc : List ℕ) → Same n (parseBody u l k over acc) (parseBody v l k over acc))
+        → Same {A = List ℕ} n
+        (elim s [
+          | label m ↦ parseBody u m k over acc
+          | instruction ws ↦ parseBody u l (k + 1) (overAt k over j) (acc ++ ws)
+          | terminator ws ↦ finishBlock l k over acc ws
+        ])
+        (elim s [
+          | label m ↦ parseBody v m k over acc
+          | instruction ws ↦ parseBody v l (k + 1) (overAt k over j) (acc ++ ws)
+          | terminator ws ↦ finishBlock l k over acc ws
+        ])
+    behind (label m) j again = again m k over acc
+    behind (instruction ws) j again = again l (k + 1) (overAt k over j) (acc ++ ws)
+    behind (terminator ws) j again = alike

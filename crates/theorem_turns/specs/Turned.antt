@@ -1,0 +1,53 @@
+-- A program whose loops are given other numbers of turns, wherever in it they stand.
+-- Assumes nothing.
+use mathlib.Core.List.{List}
+use mathlib.Core.Option.{Option}
+use Prim.Native.Nat.{ℕ, _≤_}
+use Rattle.program.specs.Prog.{Prog, look, eat, here, lead, scan, last, _>>=_}
+use Rattle.grammar.specs.Lexer.{skipAll}
+use Rattle.grammar.specs.Attributes.{skipAttrsIn}
+use Rattle.grammar.specs.Types.{TypeOut, Listed, suffixes}
+use Rattle.grammar.specs.Values.{parseGepFlags}
+use Rattle.grammar.specs.Instructions.{AllocaRest, parseTrailingIn, allocaRest, gepInstIndices}
+use Rattle.grammar.specs.Body.{parseBody}
+use Rattle.theorem_turns.specs.Same as Same
+use Rattle.theorem_turns.specs.Loops.{same-skipAll, same-skipAttrsIn, same-suffixes, same-parseGepFlags, same-parseTrailingIn, same-allocaRest, same-gepInstIndices, same-parseBody}
+
+-- g is f but for numbers of turns, none of which is less than n.
+pub data Turned (n : ℕ) : (A : Type 0) (f g : Prog A) → Type 1 where
+  as-is : {A : Type 0} {f : Prog A} → Turned n A f f
+  further : {A : Type 0} {f g h : Prog A} → Turned n A f g → Turned n A g h → Turned n A f h
+  looks : {A : Type 0} {f g : ℕ → Prog A} → ((b : ℕ) → Turned n A (f b) (g b)) → Turned n A (look f) (look g)
+  eats : {A : Type 0} {f g : Prog A} → Turned n A f g → Turned n A (eat f) (eat g)
+  asks : {A : Type 0} {f g : ℕ → Prog A} → ((i : ℕ) → Turned n A (f i) (g i)) → Turned n A (here f) (here g)
+  leads : {A : Type 0} {f g : List ℕ → Prog A} → ((w : List ℕ) → Turned n A (f w) (g w)) → Turned n A (lead f) (lead g)
+  scans : {A : Type 0} {t : ℕ → ℕ → Option ℕ} {q : ℕ} {f g : List ℕ → Prog A} → ((w : List ℕ) → Turned n A (f w) (g w)) → Turned n A (scan t q f) (scan t q g)
+  ends : {A : Type 0} {b : ℕ} {ws : List ℕ} {f g : Prog A} → Turned n A f g → Turned n A (last b ws f) (last b ws g)
+  binds : {A B : Type 0} {f g : Prog A} {h k : A → Prog B} → Turned n A f g → ((a : A) → Turned n B (h a) (k a)) → Turned n B (f >>= h) (g >>= k)
+  at-skipAll : (u v : ℕ) (table : List (List ℕ)) → Same.Full table → n ≤ u → n ≤ v → Turned n (Unit {0}) (skipAll u table) (skipAll v table)
+  at-skipAttrsIn : (u v : ℕ) → n ≤ u → n ≤ v → Turned n (Unit {0}) (skipAttrsIn u) (skipAttrsIn v)
+  at-suffixes : (u v bad : ℕ) (elem : Prog TypeOut) (t : List ℕ) → n ≤ u → n ≤ v → Turned n TypeOut (suffixes u bad elem t) (suffixes v bad elem t)
+  at-parseGepFlags : (u v inbounds : ℕ) → n ≤ u → n ≤ v → Turned n ℕ (parseGepFlags u inbounds) (parseGepFlags v inbounds)
+  at-parseTrailingIn : (u v : ℕ) (align : List ℕ) → n ≤ u → n ≤ v → Turned n (List ℕ) (parseTrailingIn u align) (parseTrailingIn v align)
+  at-allocaRest : (u v : ℕ) (count : Option (List ℕ)) (align : List ℕ) → n ≤ u → n ≤ v → Turned n AllocaRest (allocaRest u count align) (allocaRest v count align)
+  at-gepInstIndices : (u v k : ℕ) (acc : List ℕ) → n ≤ u → n ≤ v → Turned n Listed (gepInstIndices u k acc) (gepInstIndices v k acc)
+  at-parseBody : (u v l k over : ℕ) (acc : List ℕ) → n ≤ u → n ≤ v → Turned n (List ℕ) (parseBody u l k over acc) (parseBody v l k over acc)
+
+pub turned-same : {A : Type 0} {n : ℕ} {f g : Prog A} → Turned n A f g → Same.Same n f g
+turned-same as-is = Same.alike
+turned-same (further d e) = Same.as-well (turned-same d) (turned-same e)
+turned-same (looks h) = Same.looks λ b. turned-same (h b)
+turned-same (eats h) = Same.shorter (Same.eats (turned-same h))
+turned-same (asks h) = Same.asks λ i. turned-same (h i)
+turned-same (leads h) = Same.leads λ w. turned-same (h w)
+turned-same (scans h) = Same.scans λ w. turned-same (h w)
+turned-same (ends h) = Same.ends (turned-same h)
+turned-same (binds d e) = Same.both (turned-same d) λ a. turned-same (e a)
+turned-same {n = n} (at-skipAll u v table f a b) = same-skipAll n u v table f a b
+turned-same {n = n} (at-skipAttrsIn u v a b) = same-skipAttrsIn n u v a b
+turned-same {n = n} (at-suffixes u v bad elem t a b) = same-suffixes n u v bad elem t a b
+turned-same {n = n} (at-parseGepFlags u v inbounds a b) = same-parseGepFlags n u v inbounds a b
+turned-same {n = n} (at-parseTrailingIn u v align a b) = same-parseTrailingIn n u v align a b
+turned-same {n = n} (at-allocaRest u v count align a b) = same-allocaRest n u v count align a b
+turned-same {n = n} (at-gepInstIndices u v k acc a b) = same-gepInstIndices n u v k acc a b
+turned-same {n = n} (at-parseBody u v l k over acc a b) = same-parseBody n u v l k over acc a b
