@@ -43,7 +43,7 @@ int main(void) {
 
   r = zimlokur_parse_define((const uint8_t *)broken, strlen(broken), words, WORDS, directory, ENTRIES * 2, &place, &entries);
   show("broken", broken, r, place, entries);
-  if (r != 6 || place != 17 || entries != 0 || words[0] != 0 || directory[0] != 0)
+  if (r != ZIMLOKUR_Q_VALUE || place != 17 || entries != 0 || words[0] != 0 || directory[0] != 0)
     return 1;
   return 0;
 }

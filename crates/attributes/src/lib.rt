@@ -333,41 +333,44 @@ fn attr_step(classes: &[u8; 256], text: &[u8], p: Parsed) -> Passed
         return Passed { p: q2, more: true };
     }
     if lexer::looks(text, q, b'"') {
-        let q1 = lexer::refuse(q, records::Q_LEFT_OUT);
-        return Passed { p: q1, more: false };
+        let q3 = lexer::refuse(q, records::Q_LEFT_OUT);
+        return Passed { p: q3, more: false };
     }
     if !two_letters(text, q) {
         return Passed { p: q, more: false };
     }
     if lexer::word(classes, text, q, b"noundef") {
-        let q1 = lexer::pass_word(text, q, b"noundef");
-        return Passed { p: q1, more: true };
+        let q4 = lexer::pass_word(text, q, b"noundef");
+        return Passed { p: q4, more: true };
     }
     let n = no_attr(classes, text, q);
     if n.r < 8 {
         return Passed { p: q, more: false };
     }
     let k = paren_attr(classes, text, q);
-    let q1 = k.p;
+    let q5 = k.p;
     let r = k.r;
     if r < 19 {
-        let q2 = names::skip_parens(classes, text, q1);
-        return Passed { p: q2, more: true };
+        let q6 = names::skip_parens(classes, text, q5);
+        return Passed { p: q6, more: true };
     }
-    if lexer::word(classes, text, q1, b"align") {
-        let q2 = lexer::pass_word(text, q1, b"align");
-        let q3 = lexer::eat_ws(classes, text, q2);
-        let n = lexer::parse_int(classes, text, q3, 0, records::NUMBER_LIMIT);
-        let q4 = n.p;
-        return Passed { p: q4, more: true };
+    if lexer::word(classes, text, q5, b"align") {
+        let q7 = lexer::pass_word(text, q5, b"align");
+        let q8 = lexer::eat_ws(classes, text, q7);
+        let n = lexer::parse_int(classes, text, q8, 0, records::NUMBER_LIMIT);
+        let q9 = n.p;
+        return Passed { p: q9, more: true };
     }
-    let f = flag_attr(classes, text, q1);
-    let q2 = f.p;
+    let f = flag_attr(classes, text, q5);
+    let q10 = f.p;
     let s = f.r;
     if s < 64 {
-        return Passed { p: q2, more: true };
+        return Passed { p: q10, more: true };
     }
-    Passed { p: q2, more: false }
+    Passed {
+        p: q10,
+        more: false,
+    }
 }
 
 // Attributes, as many as stand there (`skip_attrs`).

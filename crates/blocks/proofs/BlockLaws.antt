@@ -12,7 +12,7 @@ use borrow.Author.Tests.{eqb-true, lt-ltb, le-ltb}
 use Rattle.program.specs.Class.{classOf, isWord}
 use Rattle.program.specs.Prog.{Prog, ret, fail, last, Res, ok, closed, no-at, run, _>>=_, byteAt}
 use Rattle.records.specs.Words.{node}
-use Rattle.records.specs.Kinds.{kBlock}
+use Rattle.records.specs.Kinds.{kind, Block}
 use Rattle.records.specs.Piece.{blockOf, blockRead}
 use Rattle.grammar.specs.Lexer.{eatWs, refuse, isByte}
 use Rattle.grammar.specs.Body.{Statement, label, instruction, terminator, parseStatement, overAt, finishBlock, parseBody, parseBlock}
@@ -149,13 +149,13 @@ body-out left l n over inv h e = go-on-rich inv (λ ws. no-more (λ u. parseBody
 
 -- a block's node, or 19
 module _ (l n over : ℕ) (acc term : List ℕ) where
-  finish-by : (z y : Bool) → ltb n 65535 ≡ z → ltb 65535 n ≡ y → finishBlock l n over acc term ≡ elim z [ true ↦ ret (node kBlock 0 (n + 1) (l ∷ (acc ++ term))) | false ↦ elim y [ true ↦ fail 19 over | false ↦ refuse 19 ] ]
+  finish-by : (z y : Bool) → ltb n 65535 ≡ z → ltb 65535 n ≡ y → finishBlock l n over acc term ≡ elim z [ true ↦ ret (node (kind Block) 0 (n + 1) (l ∷ (acc ++ term))) | false ↦ elim y [ true ↦ fail 19 over | false ↦ refuse 19 ] ]
   unfolding finishBlock
   finish-by z y e t =
-      ap (λ (x : Bool). elim x [ true ↦ ret (node kBlock 0 (n + 1) (l ∷ (acc ++ term))) | false ↦ elim (ltb 65535 n) [ true ↦ fail 19 over | false ↦ refuse 19 ] ]) e ∙
-      ap (λ (x : Bool). elim z [ true ↦ ret (node kBlock 0 (n + 1) (l ∷ (acc ++ term))) | false ↦ elim x [ true ↦ fail 19 over | false ↦ refuse 19 ] ]) t
+      ap (λ (x : Bool). elim x [ true ↦ ret (node (kind Block) 0 (n + 1) (l ∷ (acc ++ term))) | false ↦ elim (ltb 65535 n) [ true ↦ fail 19 over | false ↦ refuse 19 ] ]) e ∙
+      ap (λ (x : Bool). elim z [ true ↦ ret (node (kind Block) 0 (n + 1) (l ∷ (acc ++ term))) | false ↦ elim x [ true ↦ fail 19 over | false ↦ refuse 19 ] ]) t
 
-  pub finish-in : n < 65535 → finishBlock l n over acc term ≡ ret (node kBlock 0 (n + 1) (l ∷ (acc ++ term)))
+  pub finish-in : n < 65535 → finishBlock l n over acc term ≡ ret (node (kind Block) 0 (n + 1) (l ∷ (acc ++ term)))
   finish-in h = finish-by true (ltb 65535 n) (lt-ltb n 65535 h) refl
 
   pub finish-over : 65535 < n → finishBlock l n over acc term ≡ fail 19 over

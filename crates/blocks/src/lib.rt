@@ -45,35 +45,35 @@ fn parse_body(classes: &[u8; 256], text: &[u8], words: &mut [u64], p: Parsed) ->
     let mut over: usize = 0;
     let mut left: usize = records::TURNS;
     while 0 < left {
-        let q1 = lexer::eat_ws(classes, text, q);
-        if lexer::looks(text, q1, b'}') {
-            let q2 = lexer::pass(text, q1, 1);
+        let r = lexer::eat_ws(classes, text, q);
+        if lexer::looks(text, r, b'}') {
+            let r1 = lexer::pass(text, r, 1);
             return Body {
-                p: q2,
+                p: r1,
                 tail: true,
                 label,
                 n,
                 over,
             };
         }
-        let s = statements::parse_statement(classes, text, words, q1);
-        let q0 = s.p;
-        let q2 = lexer::anew(q0);
+        let s = statements::parse_statement(classes, text, words, r);
+        let r2 = s.p;
+        let r3 = lexer::anew(r2);
         let kind = s.kind;
-        if kind == 0 {
-            q = q2;
+        if kind == statements::LABEL {
+            q = r3;
             label = s.label;
             left -= 1;
         } else {
-            if kind == 1 {
-                let at = lexer::place(q2);
-                q = q2;
+            if kind == statements::INSTRUCTION {
+                let at = lexer::place(r3);
+                q = r3;
                 over = over_at(n, over, at);
                 n += 1;
                 left -= 1;
             } else {
                 return Body {
-                    p: q2,
+                    p: r3,
                     tail: false,
                     label,
                     n,
@@ -141,13 +141,13 @@ pub fn parse_block(classes: &[u8; 256], text: &[u8], words: &mut [u64]) -> Piece
     ensures { λ r. ⌜ BlockIs (blockAt (now (text .entry))) r (now (words .exit)) × (length (now (words .exit)) ≡ length (now (words .entry))) ⌝ }
 {
     let p = Parsed::Ok(Cursor { at: 0, w: 0 });
-    let p1 = writer::push(words, p, 0);
-    let p2 = writer::push(words, p1, 0);
-    let b = parse_body(classes, text, words, p2);
+    let r = writer::push(words, p, 0);
+    let r1 = writer::push(words, r, 0);
+    let b = parse_body(classes, text, words, r1);
     let q = b.p;
     if b.tail {
         return as_tail(q);
     }
-    let q1 = finish_block(words, p, q, b.label, b.n, b.over);
-    as_block(q1)
+    let r2 = finish_block(words, p, q, b.label, b.n, b.over);
+    as_block(r2)
 }

@@ -21,14 +21,14 @@ fn arg_item(classes: &[u8; 256], text: &[u8], words: &mut [u64], p: Parsed, n: u
     requires { ⌜ Classes (now classes) ⌝ }
     ensures { λ r. ⌜ Leads (argItem n) 0 [] (made same (now (text .entry)) p) (now (text .entry)) p p (now (words .entry)) (r .p) (now (words .exit)) × Counts (r .p) (r .n) (n + 2) ⌝ }
 {
-    let q1 = types::parse_type(classes, text, words, p, records::DEPTH_LIMIT);
-    let q2 = lexer::count_child(q1, n);
+    let q = types::parse_type(classes, text, words, p, records::DEPTH_LIMIT);
+    let q1 = lexer::count_child(q, n);
     let k = types::one_more(n);
-    let q3 = attributes::skip_attrs(classes, text, q2);
-    let q4 = values::parse_value(classes, text, words, q3, records::DEPTH_LIMIT);
-    let q5 = lexer::count_child(q4, k);
-    let m = types::one_more(k);
-    Pair { p: q5, n: m }
+    let q2 = attributes::skip_attrs(classes, text, q1);
+    let q3 = values::parse_value(classes, text, words, q2, records::DEPTH_LIMIT);
+    let q4 = lexer::count_child(q3, k);
+    let k1 = types::one_more(k);
+    Pair { p: q4, n: k1 }
 }
 
 // The arguments, behind the `(` (`parse_arg_list`); n children stand before them.
@@ -38,25 +38,25 @@ fn parse_arg_list(classes: &[u8; 256], text: &[u8], words: &mut [u64], p: Parsed
 {
     let mut q = lexer::eat_ws(classes, text, p);
     if lexer::looks(text, q, b')') {
-        let q1 = lexer::pass(text, q, 1);
-        return Listed { p: q1, n, dots: 0 };
+        q = lexer::pass(text, q, 1);
+        return Listed { p: q, n, dots: 0 };
     }
     let mut left: usize = records::LIST_TURNS;
     let mut m: u16 = n;
     while 0 < left {
-        let q1 = lexer::eat_ws(classes, text, q);
-        if lexer::looks(text, q1, b'.') {
-            let q2 = names::three_dots(text, q1, records::Q_TYPE);
-            let q3 = lexer::expect_token(classes, text, q2, b')');
+        q = lexer::eat_ws(classes, text, q);
+        if lexer::looks(text, q, b'.') {
+            q = names::three_dots(text, q, records::Q_TYPE);
+            q = lexer::expect_token(classes, text, q, b')');
             return Listed {
-                p: q3,
+                p: q,
                 n: m,
                 dots: 0,
             };
         }
-        let x = arg_item(classes, text, words, q1, m);
-        let q2 = x.p;
-        let e = lexer::comma_or(classes, text, q2, b')');
+        let x = arg_item(classes, text, words, q, m);
+        q = x.p;
+        let e = lexer::comma_or(classes, text, q, b')');
         m = x.n;
         q = e.p;
         if e.more {
@@ -69,9 +69,9 @@ fn parse_arg_list(classes: &[u8; 256], text: &[u8], words: &mut [u64], p: Parsed
             };
         }
     }
-    let q1 = lexer::refuse(q, records::Q_CHILDREN);
+    q = lexer::refuse(q, records::Q_CHILDREN);
     Listed {
-        p: q1,
+        p: q,
         n: m,
         dots: 0,
     }
@@ -90,14 +90,12 @@ fn call_rest(
     requires { ⌜ Classes (now classes) ⌝ }
     ensures { λ r. ⌜ ((dest : ℕ) (types : List ℕ) → Leads (callRest dest d n types) 0 (0 ∷ dest ∷ types) (made same (now (text .entry)) p0) (now (text .entry)) p0 p (now (words .entry)) r (now (words .exit))) ⌝ }
 {
-    let p1 = values::parse_value(classes, text, words, p, records::DEPTH_LIMIT);
-    let p2 = lexer::expect_token(classes, text, p1, b'(');
-    let l = parse_arg_list(classes, text, words, p2, n);
-    let p3 = l.p;
-    let p4 = attributes::skip_attrs(classes, text, p3);
-    let t = operands::parse_trailing(classes, text, p4);
-    let p5 = t.p;
-    writer::close(words, p0, p5, records::K_CALL, d, l.n)
+    let q = values::parse_value(classes, text, words, p, records::DEPTH_LIMIT);
+    let q1 = lexer::expect_token(classes, text, q, b'(');
+    let l = parse_arg_list(classes, text, words, q1, n);
+    let q2 = l.p;
+    let q3 = attributes::skip_attrs(classes, text, q2);
+    operands::end(classes, text, words, p0, q3, records::K_CALL, d, l.n)
 }
 
 // The n words from `from` on stand from `to` on too, where that is not before them; as far as the array reaches.
@@ -157,11 +155,11 @@ fn func_type(classes: &[u8; 256], text: &[u8], words: &mut [u64], p: Parsed, s: 
     requires { ⌜ Classes (now classes) ⌝ }
     ensures { λ r. ⌜ ((t : List ℕ) → Held t s p p (now (words .entry)) → Leads (funcType t) (length t + 1) [] (made same (now (text .entry)) p) (now (text .entry)) p p (now (words .entry)) r (now (words .exit))) ⌝ }
 {
-    let p1 = writer::push(words, p, 0);
-    let p2 = again(words, s, p, p1);
-    let l = types::parse_type_list(classes, text, words, p2, records::LIST_DEPTH);
-    let p3 = l.p;
-    writer::close(words, p, p3, records::K_FUNC, l.dots, l.n)
+    let q = writer::push(words, p, 0);
+    let q1 = again(words, s, p, q);
+    let l = types::parse_type_list(classes, text, words, q1, records::LIST_DEPTH);
+    let q2 = l.p;
+    writer::close(words, p, q2, records::K_FUNC, l.dots, l.n)
 }
 
 // `call T V(..)`, behind the word.
@@ -175,18 +173,17 @@ pub fn parse_call(
     requires { ⌜ Classes (now classes) ⌝ }
     ensures { λ r. ⌜ Leads (parseCall dest) 3 [] (richly (now (text .entry)) (made same (now (text .entry)) p)) (now (text .entry)) p p (now (words .entry)) r (now (words .exit)) ⌝ }
 {
-    let p1 = writer::push(words, p, 0);
-    let p2 = writer::push(words, p1, dest);
-    let p3 = attributes::skip_call_cconv(classes, text, p2);
-    let p4 = attributes::skip_attrs(classes, text, p3);
-    let p5 = types::parse_type(classes, text, words, p4, records::DEPTH_LIMIT);
-    let p6 = lexer::eat_ws(classes, text, p5);
-    if lexer::looks(text, p6, b'(') {
-        let p7 = lexer::pass(text, p6, 1);
-        let p8 = func_type(classes, text, words, p7, p4);
-        return call_rest(classes, text, words, p, p8, 1, 3);
+    let q = writer::begin(words, p, dest);
+    let q1 = attributes::skip_call_cconv(classes, text, q);
+    let s = attributes::skip_attrs(classes, text, q1);
+    let q2 = types::parse_type(classes, text, words, s, records::DEPTH_LIMIT);
+    let q3 = lexer::eat_ws(classes, text, q2);
+    if lexer::looks(text, q3, b'(') {
+        let q4 = lexer::pass(text, q3, 1);
+        let q5 = func_type(classes, text, words, q4, s);
+        return call_rest(classes, text, words, p, q5, records::D_FUNCTION_TYPE, 3);
     }
-    call_rest(classes, text, words, p, p6, 0, 2)
+    call_rest(classes, text, words, p, q3, 0, 2)
 }
 
 // `tail call` and its like, behind the first word.
@@ -200,6 +197,6 @@ pub fn parse_tail_call(
     requires { ⌜ Classes (now classes) ⌝ }
     ensures { λ r. ⌜ Leads (parseTailCall dest) 3 [] (richly (now (text .entry)) (made same (now (text .entry)) p)) (now (text .entry)) p p (now (words .entry)) r (now (words .exit)) ⌝ }
 {
-    let p1 = lexer::expect_keyword(classes, text, p, b"call");
-    parse_call(classes, text, words, p1, dest)
+    let q = lexer::expect_keyword(classes, text, p, b"call");
+    parse_call(classes, text, words, q, dest)
 }

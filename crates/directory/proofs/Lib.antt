@@ -1,10 +1,3 @@
 pub mod Stores
-pub mod Chain
 pub mod Links
-pub mod Judge
-pub mod Word
-pub mod Front
-pub mod Find
 pub mod Moved
-pub mod Place
-pub mod Final

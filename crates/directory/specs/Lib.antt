@@ -1,4 +1,2 @@
 pub mod Olds
-pub mod Answers
-pub mod Place
 pub mod Piece

@@ -1,9 +1,9 @@
 -- Attributes, linkage, calling conventions and flags: what the reader drops. 01: "Keywords are compared with fixed byte strings".
 -- Assumes nothing.
-use mathlib.Core.List.{List, [], _∷_}
+use mathlib.Core.List.{List, _++_}
 use mathlib.Core.Option.{Option, none, some}
 use Prim.Native.Nat.{ℕ, zero, suc}
-use Rattle.program.specs.Bytes.{bytes, byte}
+use Rattle.program.specs.Bytes.{bytes, byte, table}
 use Rattle.program.specs.Choice.{pick}
 use Rattle.program.specs.Class.{isDigit}
 use Rattle.program.specs.Prog.{Prog, ret, scan, _>>=_}
@@ -16,53 +16,38 @@ use Rattle.grammar.specs.Numbers.{parseInt}
 -- `FLAG_ATTRS`
 unfoldable pub flagAttrs : List (List ℕ)
 flagAttrs =
-    bytes "private" ∷ bytes "internal" ∷ bytes "available_externally" ∷ bytes "linkonce" ∷ bytes "linkonce_odr" ∷
-    bytes "weak" ∷ bytes "weak_odr" ∷ bytes "appending" ∷ bytes "common" ∷ bytes "extern_weak" ∷ bytes "external" ∷
-    bytes "hidden" ∷ bytes "protected" ∷ bytes "default" ∷ bytes "dso_local" ∷ bytes "dso_preemptable" ∷
-    bytes "unnamed_addr" ∷ bytes "local_unnamed_addr" ∷ bytes "comdat" ∷ bytes "noundef" ∷ bytes "nonnull" ∷
-    bytes "signext" ∷ bytes "zeroext" ∷ bytes "inreg" ∷ bytes "noalias" ∷ bytes "nocapture" ∷ bytes "readonly" ∷
-    bytes "readnone" ∷ bytes "writeonly" ∷ bytes "immarg" ∷ bytes "returned" ∷ bytes "nest" ∷ bytes "writable" ∷
-    bytes "dead_on_unwind" ∷ bytes "dead_on_return" ∷ bytes "nounwind" ∷ bytes "nofree" ∷ bytes "mustprogress" ∷
-    bytes "willreturn" ∷ bytes "norecurse" ∷ bytes "nosync" ∷ bytes "nocallback" ∷ bytes "uwtable" ∷ bytes "noreturn" ∷
-    bytes "noinline" ∷ bytes "alwaysinline" ∷ bytes "inlinehint" ∷ bytes "optsize" ∷ bytes "optnone" ∷
-    bytes "minsize" ∷ bytes "cold" ∷ bytes "hot" ∷ bytes "convergent" ∷ bytes "speculatable" ∷ bytes "nobuiltin" ∷
-    bytes "noimplicitfloat" ∷ bytes "noredzone" ∷ bytes "strictfp" ∷ bytes "ssp" ∷ bytes "sspstrong" ∷ bytes "sspreq" ∷
-    bytes "sanitize_address" ∷ bytes "sanitize_memory" ∷ bytes "sanitize_thread" ∷ []
+    table "private internal available_externally linkonce linkonce_odr weak weak_odr appending common extern_weak external hidden" ++
+    table "protected default dso_local dso_preemptable unnamed_addr local_unnamed_addr comdat noundef nonnull signext zeroext" ++
+    table "inreg noalias nocapture readonly readnone writeonly immarg returned nest writable dead_on_unwind dead_on_return" ++
+    table "nounwind nofree mustprogress willreturn norecurse nosync nocallback uwtable noreturn noinline alwaysinline inlinehint" ++
+    table "optsize optnone minsize cold hot convergent speculatable nobuiltin noimplicitfloat noredzone strictfp ssp sspstrong" ++
+    table "sspreq sanitize_address sanitize_memory sanitize_thread"
 
 -- `PAREN_ATTRS`
 unfoldable pub parenAttrs : List (List ℕ)
 parenAttrs =
-    bytes "captures" ∷ bytes "memory" ∷ bytes "range" ∷ bytes "dereferenceable" ∷ bytes "dereferenceable_or_null" ∷
-    bytes "byval" ∷ bytes "byref" ∷ bytes "sret" ∷ bytes "inalloca" ∷ bytes "preallocated" ∷ bytes "elementtype" ∷
-    bytes "alignstack" ∷ bytes "allocsize" ∷ bytes "allockind" ∷ bytes "vscale_range" ∷ bytes "nofpclass" ∷
-    bytes "addrspace" ∷ bytes "initializes" ∷ bytes "dead_on_return" ∷ []
+    table "captures memory range dereferenceable dereferenceable_or_null byval byref sret inalloca preallocated elementtype" ++
+    table "alignstack allocsize allockind vscale_range nofpclass addrspace initializes dead_on_return"
 
 -- `Linkage`, in ast.rs order
 unfoldable pub linkages : List (List ℕ)
-linkages =
-    bytes "private" ∷ bytes "internal" ∷ bytes "available_externally" ∷ bytes "linkonce" ∷ bytes "weak" ∷
-    bytes "common" ∷ bytes "appending" ∷ bytes "extern_weak" ∷ bytes "linkonce_odr" ∷ bytes "weak_odr" ∷
-    bytes "external" ∷ []
+linkages = table "private internal available_externally linkonce weak common appending extern_weak linkonce_odr weak_odr external"
 
 -- `CCONVS`
 unfoldable pub callingConventions : List (List ℕ)
-callingConventions =
-    bytes "ccc" ∷ bytes "fastcc" ∷ bytes "coldcc" ∷ bytes "tailcc" ∷ bytes "swiftcc" ∷ bytes "swifttailcc" ∷
-    bytes "anyregcc" ∷ bytes "preserve_mostcc" ∷ bytes "preserve_allcc" ∷ bytes "cxx_fast_tlscc" ∷ []
+callingConventions = table "ccc fastcc coldcc tailcc swiftcc swifttailcc anyregcc preserve_mostcc preserve_allcc cxx_fast_tlscc"
 
 -- the flags of `skip_arith_flags`
 unfoldable pub arithFlags : List (List ℕ)
-arithFlags = bytes "nuw" ∷ bytes "nsw" ∷ bytes "exact" ∷ bytes "disjoint" ∷ []
+arithFlags = table "nuw nsw exact disjoint"
 
 -- the flags of `skip_fast_math_flags`
 unfoldable pub fastMathFlags : List (List ℕ)
-fastMathFlags =
-    bytes "fast" ∷ bytes "nnan" ∷ bytes "ninf" ∷ bytes "nsz" ∷ bytes "arcp" ∷ bytes "contract" ∷ bytes "afn" ∷
-    bytes "reassoc" ∷ []
+fastMathFlags = table "fast nnan ninf nsz arcp contract afn reassoc"
 
 -- the flags of `parse_conv`
 unfoldable pub convFlags : List (List ℕ)
-convFlags = bytes "nneg" ∷ bytes "nuw" ∷ bytes "nsw" ∷ []
+convFlags = table "nneg nuw nsw"
 
 -- digits behind `#`, without underscores ("those behind `#` are skipped unjudged")
 unfoldable pub groupStep : ℕ → ℕ → Option ℕ
@@ -74,7 +59,7 @@ skipAttrsIn zero = ret tt
 skipAttrsIn (suc u) = do
   _ ← eatWs
   byteIf (byte "#") (scan groupStep 0 (λ w. skipAttrsIn u))
-      (byteAtIf 34 (refuse qLeftOut)
+      (byteAtIf (byte "\"") (refuse qLeftOut)
       (rankIf parenAttrs (λ r. skipParens >>= λ _. skipAttrsIn u)
       (wordIf (bytes "align") (eatWs >>= λ _. (parseInt 0 numberLimit >>= λ _. skipAttrsIn u))
       (rankIf flagAttrs (λ r. skipAttrsIn u) (ret tt)))))

@@ -8,10 +8,10 @@ use Rattle.program.specs.Bytes.{bytes, byte}
 use Rattle.program.specs.Choice.{pick}
 use Rattle.program.specs.Prog.{Prog, ret, fail, last, _>>=_}
 use Rattle.records.specs.Words.{pack, node}
-use Rattle.records.specs.Kinds.{kHead, kBlock, kParam}
+use Rattle.records.specs.Kinds.{kind, Head, Block, Param}
 use Rattle.records.specs.Limits.{turns, depthLimit, childLimit, listTurns}
-use Rattle.records.specs.Questions.{qToken, qStatement, qOpcode, qChildren}
-use Rattle.records.specs.Details.{dVarargs, dNamed}
+use Rattle.records.specs.Questions.{qToken, qType, qStatement, qOpcode, qChildren}
+use Rattle.records.specs.Details.{dVarargs, dDots, dNamed}
 use Rattle.grammar.specs.Lexer.{refuse, place, eatWs, byteIf, expectToken, Word, isEmptyWord, sizeOf, spelled, readWord, nameWord, parseGlobalName}
 use Rattle.grammar.specs.Attributes.{parseLinkage, skipAttrs, skipCallCconv}
 use Rattle.grammar.specs.Types.{Listed, listed, countOf, dotsOf, wordsOf, child, whole, behind, dotsList, parseType}
@@ -52,10 +52,7 @@ unfoldable pub statementOf : ℕ → Word → Prog Statement
 statementOf i w = elim (isEmptyWord w) [ true ↦ refuse qStatement | false ↦ byteIf (byte ":") (ret (label (pack i (sizeOf w)))) (opcode (spelled w)) ]
 
 unfoldable pub wordStatement : Prog Statement
-wordStatement = do
-  i ← place
-  w ← readWord
-  statementOf i w
+wordStatement = place >>= λ i. (readWord >>= λ w. statementOf i w)
 
 unfoldable pub parseStatement : Prog Statement
 parseStatement = byteIf (byte "%") parseInst wordStatement
@@ -65,7 +62,7 @@ parseStatement = byteIf (byte "%") parseInst wordStatement
 unfoldable pub finishBlock : ℕ → ℕ → ℕ → List ℕ → List ℕ → Prog (List ℕ)
 finishBlock l n over acc term =
     elim (ltb n childLimit) [
-      | true ↦ ret (node kBlock 0 (n + 1) (l ∷ (acc ++ term)))
+      | true ↦ ret (node (kind Block) 0 (n + 1) (l ∷ (acc ++ term)))
       | false ↦ elim (ltb childLimit n) [ true ↦ fail qChildren over | false ↦ refuse qChildren ]
     ]
 
@@ -97,7 +94,7 @@ parseBlock = parseBody turns 0 0 0 []
 unfoldable pub paramOf : List ℕ → Prog (List ℕ)
 paramOf t = do
   _ ← eatWs
-  byteIf (byte "%") (nameWord >>= λ n. ret (node kParam dNamed 1 (n ∷ t))) (ret (node kParam 0 1 (0 ∷ t)))
+  byteIf (byte "%") (nameWord >>= λ n. ret (node (kind Param) dNamed 1 (n ∷ t))) (ret (node (kind Param) 0 1 (0 ∷ t)))
 
 unfoldable pub parseParam : ℕ → Prog (List ℕ)
 parseParam q = do
@@ -108,11 +105,11 @@ parseParam q = do
 -- `parse_param_list`, behind the `(`; the return type is a child before them
 unfoldable pub parseParamList : Prog Listed
 parseParamList =
-    eatWs >>= λ _. byteIf (byte ")") (ret (listed 1 0 [])) (dotsList listTurns 1 1 5 (λ n. child n (parseParam (behind n 3))) 1 [])
+    eatWs >>= λ _. byteIf (byte ")") (ret (listed 1 0 [])) (dotsList listTurns 1 dDots qType (λ n. child n (parseParam (behind n qToken))) 1 [])
 
 -- "The head has the `Linkage` rank (10 when unwritten) plus 128 for varargs."
 unfoldable pub headNode : ℕ → ℕ → List ℕ → Listed → List ℕ
-headNode linkage name t l = node kHead (linkage + dVarargs * dotsOf l) (countOf l) (name ∷ (t ++ wordsOf l))
+headNode linkage name t l = node (kind Head) (linkage + dVarargs * dotsOf l) (countOf l) (name ∷ (t ++ wordsOf l))
 
 -- `parse_define`, through the `{`
 unfoldable pub parseHead : Prog (List ℕ)

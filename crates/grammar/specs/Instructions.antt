@@ -8,10 +8,10 @@ use mathlib.Core.Option.{Option, none, some}
 use Prim.Native.Nat.{ℕ, zero, suc, _+_, _*_}
 use lib.Dec.{ltb, eqb}
 use lib.ListN.{length, getD}
-use Rattle.program.specs.Bytes.{bytes, byte}
+use Rattle.program.specs.Bytes.{bytes, byte, table}
 use Rattle.program.specs.Prog.{Prog, ret, _>>=_}
 use Rattle.records.specs.Words.{header, node}
-use Rattle.records.specs.Kinds.{kFunc, kIntConst, kBin, kFBin, kFNeg, kConv, kICmp, kFCmp, kSelect, kLoad, kStore, kAlloca, kGep, kPhi, kCall, kFreeze, kAtomicLoad, kAtomicStore, kCmpxchg, kExtractValue, kFence, kRet, kBr, kSwitch, kUnreachable, kName}
+use Rattle.records.specs.Kinds.{kind, Func, IntConst, Bin, FBin, FNeg, Conv, ICmp, FCmp, Select, Load, Store, Alloca, Gep, Phi, Call, Freeze, AtomicLoad, AtomicStore, Cmpxchg, ExtractValue, Fence, Ret, Br, Switch, Unreachable, Name}
 use Rattle.records.specs.Limits.{turns, indexLimit, numberLimit, depthLimit, listDepth, listTurns}
 use Rattle.records.specs.Questions.{qToken, qType, qValue, qStatement, qOpcode, qPredicate, qTrailing, qCase, qLeftOut, qChildren}
 use Rattle.records.specs.Details.{dCount, dAllocaAlign, dFunctionType, dCondition, dValue}
@@ -30,34 +30,46 @@ value = parseValue depthLimit
 
 -- "Branch, switch and phi labels are the other names": a child of kind 63
 unfoldable pub labelNode : ℕ → List ℕ
-labelNode n = node kName 0 0 (n ∷ [])
+labelNode n = node (kind Name) 0 0 (n ∷ [])
 
 -- a typed value whose type is dropped
 unfoldable pub parseOperand : Prog (List ℕ)
 parseOperand = type qValue >>= λ _. value
 
--- `parse_trailing`: `, align N` and metadata, as many as stand there; the last number, as its word
-unfoldable pub parseTrailingIn : ℕ → List ℕ → Prog (List ℕ)
-parseTrailingIn zero align = ret align
-parseTrailingIn (suc u) align =
+-- What stands in clauses behind an instruction's operands: an alloca's count, if there is one, and the alignment's word.
+pub data Clauses : Type 0 where
+  clauses : Option (List ℕ) → List ℕ → Clauses
+
+-- Clauses behind commas, as many as stand there: `align N`, metadata, or else what `count` reads. "of several counts and aligns the last counts"
+unfoldable pub clausesIn : ℕ → Prog (List ℕ) → Option (List ℕ) → List ℕ → Prog Clauses
+clausesIn zero count n align = ret (clauses n align)
+clausesIn (suc u) count n align =
     tokenIf (byte ",")
     (do
       _ ← eatWs
       wordIf (bytes "align")
           (do
             _ ← eatWs
-            n ← parseInt 0 numberLimit
-            parseTrailingIn u (n ∷ []))
-          (byteIf (byte "!") (skipMetadataRef >>= λ _. parseTrailingIn u align) (refuse qTrailing)))
-    (ret align)
+            a ← parseInt 0 numberLimit
+            clausesIn u count n (a ∷ []))
+          (byteIf (byte "!") (skipMetadataRef >>= λ _. clausesIn u count n align)
+          (count >>= λ x. clausesIn u count (some x) align)))
+    (ret (clauses n align))
 
+abbrev pub alignment : Clauses → List ℕ
+alignment (clauses n align) = align
+
+-- `parse_trailing`: the last alignment, as its word; a count is refused
 unfoldable pub parseTrailing : Prog (List ℕ)
-parseTrailing = parseTrailingIn turns []
+parseTrailing = clausesIn turns (refuse qTrailing) none [] >>= λ c. ret (alignment c)
+
+-- an instruction's end: what trails is dropped, and the node is whole
+unfoldable pub ending : (k d n : ℕ) → List ℕ → Prog (List ℕ)
+ending k d n body = parseTrailing >>= λ _. ret (node k d n body)
 
 -- the orderings of `skip_atomic_ordering`
 unfoldable pub orderings : List (List ℕ)
-orderings =
-    bytes "seq_cst" ∷ bytes "acq_rel" ∷ bytes "acquire" ∷ bytes "release" ∷ bytes "monotonic" ∷ bytes "unordered" ∷ []
+orderings = table "seq_cst acq_rel acquire release monotonic unordered"
 
 unfoldable pub skipAtomicOrdering : Prog (Unit {0})
 skipAtomicOrdering = do
@@ -74,26 +86,22 @@ twoOperands = do
   b ← value
   ret ((t ++ a) ++ b)
 
+-- T V, V to the end of an operation or a comparison
+unfoldable pub binary : (k d dest : ℕ) → Prog (List ℕ)
+binary k d dest = twoOperands >>= λ x. ending k d 3 (dest ∷ x)
+
 unfoldable pub parseBin : ℕ → ℕ → Prog (List ℕ)
-parseBin op dest = do
-  _ ← skipArithFlags
-  x ← twoOperands
-  _ ← parseTrailing
-  ret (node kBin op 3 (dest ∷ x))
+parseBin op dest = skipArithFlags >>= λ _. binary (kind Bin) op dest
 
 unfoldable pub parseFbin : ℕ → ℕ → Prog (List ℕ)
-parseFbin op dest = do
-  _ ← skipFastMathFlags
-  x ← twoOperands
-  _ ← parseTrailing
-  ret (node kFBin op 3 (dest ∷ x))
+parseFbin op dest = skipFastMathFlags >>= λ _. binary (kind FBin) op dest
+
+-- T V to the end
+unfoldable pub unary : (k dest : ℕ) → Prog (List ℕ)
+unary k dest = parseTypedVal depthLimit >>= λ x. ending k 0 2 (dest ∷ x)
 
 unfoldable pub parseFneg : ℕ → Prog (List ℕ)
-parseFneg dest = do
-  _ ← skipFastMathFlags
-  x ← parseTypedVal depthLimit
-  _ ← parseTrailing
-  ret (node kFNeg 0 2 (dest ∷ x))
+parseFneg dest = skipFastMathFlags >>= λ _. unary (kind FNeg) dest
 
 -- Behind an instruction that ends in a type a `(` begins the next statement, which refuses with 8: here already, since a type that read a list
 -- says so of its `(` too.
@@ -106,41 +114,31 @@ parseConv op dest = do
   x ← parseTypedVal depthLimit
   _ ← expectKeyword (bytes "to")
   t ← type qStatement
-  noParen (do
-    _ ← parseTrailing
-    ret (node kConv op 3 (dest ∷ (x ++ t))))
+  noParen (ending (kind Conv) op 3 (dest ∷ (x ++ t)))
 
 -- `ICmpPred`, in ast.rs order
 unfoldable pub icmpPreds : List (List ℕ)
-icmpPreds =
-    bytes "eq" ∷ bytes "ne" ∷ bytes "ugt" ∷ bytes "uge" ∷ bytes "ult" ∷ bytes "ule" ∷ bytes "sgt" ∷ bytes "sge" ∷ bytes "slt" ∷
-    bytes "sle" ∷ []
+icmpPreds = table "eq ne ugt uge ult ule sgt sge slt sle"
 
 -- `FCmpPred`, in ast.rs order
 unfoldable pub fcmpPreds : List (List ℕ)
-fcmpPreds =
-    bytes "false" ∷ bytes "oeq" ∷ bytes "ogt" ∷ bytes "oge" ∷ bytes "olt" ∷ bytes "ole" ∷ bytes "one" ∷ bytes "ord" ∷
-    bytes "ueq" ∷ bytes "ugt" ∷ bytes "uge" ∷ bytes "ult" ∷ bytes "ule" ∷ bytes "une" ∷ bytes "uno" ∷ bytes "true" ∷ []
+fcmpPreds = table "false oeq ogt oge olt ole one ord ueq ugt uge ult ule une uno true"
 
 -- `parse_icmp_pred`, `parse_fcmp_pred`: question 10
 unfoldable pub predicate : List (List ℕ) → Prog ℕ
-predicate table = eatWs >>= λ _. rankIf table ret (refuse qPredicate)
+predicate preds = eatWs >>= λ _. rankIf preds ret (refuse qPredicate)
 
 unfoldable pub parseIcmp : ℕ → Prog (List ℕ)
 parseIcmp dest = do
   _ ← skipKeyword (bytes "samesign")
   p ← predicate icmpPreds
-  x ← twoOperands
-  _ ← parseTrailing
-  ret (node kICmp p 3 (dest ∷ x))
+  binary (kind ICmp) p dest
 
 unfoldable pub parseFcmp : ℕ → Prog (List ℕ)
 parseFcmp dest = do
   _ ← skipFastMathFlags
   p ← predicate fcmpPreds
-  x ← twoOperands
-  _ ← parseTrailing
-  ret (node kFCmp p 3 (dest ∷ x))
+  binary (kind FCmp) p dest
 
 -- condition, type, values: the types of the condition and of the second value are dropped
 unfoldable pub parseSelect : ℕ → Prog (List ℕ)
@@ -150,8 +148,7 @@ parseSelect dest = do
   x ← parseTypedVal depthLimit
   _ ← expectToken (byte ",")
   y ← parseOperand
-  _ ← parseTrailing
-  ret (node kSelect 0 4 (dest ∷ ((c ++ x) ++ y)))
+  ending (kind Select) 0 4 (dest ∷ ((c ++ x) ++ y))
 
 -- T, T V
 unfoldable pub loadOperands : Prog (List ℕ)
@@ -170,27 +167,26 @@ storeOperands = do
   ret (x ++ p)
 
 -- a load or a store, behind its word: the alignment stands before the operands, and takes no word when absent; a detail bit says that it is there
-unfoldable pub access : (kind atomic n : ℕ) → Prog (List ℕ) → ℕ → Prog (List ℕ)
-access kind atomic n operands dest = do
+unfoldable pub access : (k atomic n : ℕ) → Prog (List ℕ) → ℕ → Prog (List ℕ)
+access k atomic n operands dest = do
   _ ← eatWs
   wordIf (bytes "atomic")
       (do
         _ ← skipKeyword (bytes "volatile")
         x ← operands
         _ ← skipAtomicOrdering
-        _ ← parseTrailing
-        ret (node atomic 0 n (dest ∷ x)))
+        ending atomic 0 n (dest ∷ x))
       (do
         _ ← skipKeyword (bytes "volatile")
         x ← operands
         align ← parseTrailing
-        ret (node kind (length align) n (dest ∷ (align ++ x))))
+        ret (node k (length align) n (dest ∷ (align ++ x))))
 
 unfoldable pub parseLoad : ℕ → Prog (List ℕ)
-parseLoad dest = access kLoad kAtomicLoad 2 loadOperands dest
+parseLoad dest = access (kind Load) (kind AtomicLoad) 2 loadOperands dest
 
 unfoldable pub parseStore : Prog (List ℕ)
-parseStore = access kStore kAtomicStore 3 storeOperands 0
+parseStore = access (kind Store) (kind AtomicStore) 3 storeOperands 0
 
 -- read as pointer, type and comparand, new value; laid out as type, pointer, comparand, new value
 unfoldable pub parseCmpxchg : ℕ → Prog (List ℕ)
@@ -205,8 +201,7 @@ parseCmpxchg dest = do
   n ← parseOperand
   _ ← skipAtomicOrdering
   _ ← skipAtomicOrdering
-  _ ← parseTrailing
-  ret (node kCmpxchg 0 4 (dest ∷ (((t ++ p) ++ c) ++ n)))
+  ending (kind Cmpxchg) 0 4 (dest ∷ (((t ++ p) ++ c) ++ n))
 
 -- Question 15: "index below 2^32"
 unfoldable pub parseExtractvalue : ℕ → Prog (List ℕ)
@@ -215,47 +210,21 @@ parseExtractvalue dest = do
   _ ← expectToken (byte ",")
   _ ← eatWs
   n ← parseInt 0 indexLimit
-  _ ← parseTrailing
-  ret (node kExtractValue 0 1 (dest ∷ (n ∷ a)))
+  ending (kind ExtractValue) 0 1 (dest ∷ (n ∷ a))
 
 unfoldable pub parseFence : Prog (List ℕ)
-parseFence = do
-  _ ← skipAtomicOrdering
-  _ ← parseTrailing
-  ret (node kFence 0 0 (0 ∷ []))
+parseFence = skipAtomicOrdering >>= λ _. ending (kind Fence) 0 0 (0 ∷ [])
 
--- Behind an alloca's type: "of several counts and aligns the last counts". The count's words, if there is one, and the alignment's word.
-pub data AllocaRest : Type 0 where
-  allocaParts : Option (List ℕ) → List ℕ → AllocaRest
-
-unfoldable pub allocaRest : ℕ → Option (List ℕ) → List ℕ → Prog AllocaRest
-allocaRest zero count align = ret (allocaParts count align)
-allocaRest (suc u) count align =
-    tokenIf (byte ",")
-    (do
-      _ ← eatWs
-      wordIf (bytes "align")
-          (do
-            _ ← eatWs
-            n ← parseInt 0 numberLimit
-            allocaRest u count (n ∷ []))
-          (byteIf (byte "!") (skipMetadataRef >>= λ _. allocaRest u count align)
-          (do
-            x ← parseTypedVal depthLimit
-            allocaRest u (some x) align)))
-    (ret (allocaParts count align))
-
-unfoldable pub allocaNode : ℕ → List ℕ → AllocaRest → List ℕ
-allocaNode dest t (allocaParts none align) = node kAlloca (length align * dAllocaAlign) 1 (dest ∷ (align ++ t))
-allocaNode dest t (allocaParts (some x) align) = node kAlloca (dCount + length align * dAllocaAlign) 3 (dest ∷ ((align ++ t) ++ x))
+-- an alloca's type, and the clauses behind it
+unfoldable pub allocaNode : ℕ → List ℕ → Clauses → List ℕ
+allocaNode dest t (clauses none align) = node (kind Alloca) (length align * dAllocaAlign) 1 (dest ∷ (align ++ t))
+allocaNode dest t (clauses (some x) align) = node (kind Alloca) (dCount + length align * dAllocaAlign) 3 (dest ∷ ((align ++ t) ++ x))
 
 unfoldable pub parseAlloca : ℕ → Prog (List ℕ)
 parseAlloca dest = do
   _ ← skipKeyword (bytes "inalloca")
   t ← type qStatement
-  noParen (do
-    r ← allocaRest turns none []
-    ret (allocaNode dest t r))
+  noParen (clausesIn turns (parseTypedVal depthLimit) none [] >>= λ c. ret (allocaNode dest t c))
 
 -- a getelementptr's indices, from before the comma: n children so far, base type and pointer among them
 unfoldable pub gepInstIndices : ℕ → ℕ → List ℕ → Prog Listed
@@ -277,7 +246,7 @@ parseGepInst dest = do
   _ ← expectToken (byte ",")
   p ← parseOperand
   l ← gepInstIndices turns 2 []
-  ret (node kGep inbounds (countOf l) (dest ∷ ((t ++ p) ++ wordsOf l)))
+  ret (node (kind Gep) inbounds (countOf l) (dest ∷ ((t ++ p) ++ wordsOf l)))
 
 -- a phi's pairs of value and label; n children so far
 unfoldable pub phiItems : ℕ → ℕ → List ℕ → Prog Listed
@@ -294,13 +263,10 @@ unfoldable pub parsePhi : ℕ → Prog (List ℕ)
 parsePhi dest = do
   t ← type qToken
   l ← phiItems listTurns 1 []
-  ret (node kPhi 0 (countOf l) (dest ∷ (t ++ wordsOf l)))
+  ret (node (kind Phi) 0 (countOf l) (dest ∷ (t ++ wordsOf l)))
 
 unfoldable pub parseFreeze : ℕ → Prog (List ℕ)
-parseFreeze dest = do
-  x ← parseTypedVal depthLimit
-  _ ← parseTrailing
-  ret (node kFreeze 0 2 (dest ∷ x))
+parseFreeze dest = unary (kind Freeze) dest
 
 -- an argument, the next children after n: a typed value with attributes behind its type
 unfoldable pub argItem : ℕ → Prog (List ℕ)
@@ -312,11 +278,11 @@ argItem n = do
 
 -- a call's arguments (`parse_arg_list`), through the `)`; n children stand before them
 unfoldable pub parseArgList : ℕ → Prog Listed
-parseArgList n = eatWs >>= λ _. byteIf (byte ")") (ret (listed n 0 [])) (dotsList listTurns 2 0 5 argItem n [])
+parseArgList n = eatWs >>= λ _. byteIf (byte ")") (ret (listed n 0 [])) (dotsList listTurns 2 0 qType argItem n [])
 
 -- `Type::Func`, which survives in calls alone: the return type again, then the list
 unfoldable pub funcNode : List ℕ → Listed → List ℕ
-funcNode t l = node kFunc (dotsOf l) (countOf l) (t ++ wordsOf l)
+funcNode t l = node (kind Func) (dotsOf l) (countOf l) (t ++ wordsOf l)
 
 -- behind the types: callee, arguments, attributes, trailing part
 unfoldable pub callRest : ℕ → ℕ → ℕ → List ℕ → Prog (List ℕ)
@@ -325,8 +291,7 @@ callRest dest d n types = do
   _ ← expectToken (byte "(")
   l ← parseArgList n
   _ ← skipAttrs
-  _ ← parseTrailing
-  ret (node kCall d (countOf l) (dest ∷ ((types ++ f) ++ wordsOf l)))
+  ending (kind Call) d (countOf l) (dest ∷ ((types ++ f) ++ wordsOf l))
 
 -- Behind the return type. A list that the type did not take as its own is the function type's.
 unfoldable pub callOf : ℕ → TypeOut → Prog (List ℕ)
@@ -353,12 +318,7 @@ parseTailCall dest = expectKeyword (bytes "call") >>= λ _. parseCall dest
 unfoldable pub parseRet : Prog (List ℕ)
 parseRet = do
   _ ← eatWs
-  wordIf (bytes "void")
-      (parseTrailing >>= λ _. ret (node kRet 0 0 []))
-      (do
-        x ← parseTypedVal depthLimit
-        _ ← parseTrailing
-        ret (node kRet dValue 2 x))
+  wordIf (bytes "void") (ending (kind Ret) 0 0 []) (parseTypedVal depthLimit >>= λ x. ending (kind Ret) dValue 2 x)
 
 unfoldable pub target : Prog ℕ
 target = do
@@ -370,23 +330,16 @@ unfoldable pub parseBr : Prog (List ℕ)
 parseBr = do
   _ ← eatWs
   wordIf (bytes "label")
-      (do
-        l ← parseLocalName
-        _ ← parseTrailing
-        ret (node kBr 0 1 (labelNode l)))
+      (parseLocalName >>= λ l. ending (kind Br) 0 1 (labelNode l))
       (do
         c ← parseOperand
         a ← target
         b ← target
-        _ ← parseTrailing
-        ret (node kBr dCondition 3 ((c ++ labelNode a) ++ labelNode b)))
+        ending (kind Br) dCondition 3 ((c ++ labelNode a) ++ labelNode b))
 
 -- a case's integer: the value's two words (question 12, behind the value); an integer's node has this header, and no other node
-unfoldable pub caseWords : List ℕ → Prog (List ℕ)
-caseWords v = elim (eqb (getD v 0 0) (header kIntConst 0 0 3)) [ true ↦ ret (getD v 1 0 ∷ getD v 2 0 ∷ []) | false ↦ refuse qCase ]
-
 unfoldable pub caseInt : Prog (List ℕ)
-caseInt = parseOperand >>= λ v. caseWords v
+caseInt = parseOperand >>= λ v. elim (eqb (getD v 0 0) (header (kind IntConst) 0 0 3)) [ true ↦ ret (getD v 1 0 ∷ getD v 2 0 ∷ []) | false ↦ refuse qCase ]
 
 -- a switch's cases: the children so far, their integers, the nodes of their labels
 pub data Cases : Type 0 where
@@ -402,7 +355,7 @@ switchCases (suc u) n ints labels =
       switchCases u (n + 1) (ints ++ c) (labels ++ labelNode l))
 
 unfoldable pub switchNode : List ℕ → ℕ → Cases → List ℕ
-switchNode x def (cases n ints labels) = node kSwitch 0 n (((ints ++ x) ++ labelNode def) ++ labels)
+switchNode x def (cases n ints labels) = node (kind Switch) 0 n (((ints ++ x) ++ labelNode def) ++ labels)
 
 unfoldable pub parseSwitch : Prog (List ℕ)
 parseSwitch = do
@@ -414,28 +367,26 @@ parseSwitch = do
   ret (switchNode x def c)
 
 unfoldable pub parseUnreachable : Prog (List ℕ)
-parseUnreachable = parseTrailing >>= λ _. ret (node kUnreachable 0 0 [])
+parseUnreachable = ending (kind Unreachable) 0 0 []
 
 -- Opcodes.
 -- `FBinOp`, in ast.rs order
 unfoldable pub fbinOps : List (List ℕ)
-fbinOps = bytes "fadd" ∷ bytes "fsub" ∷ bytes "fmul" ∷ bytes "fdiv" ∷ bytes "frem" ∷ []
+fbinOps = table "fadd fsub fmul fdiv frem"
 
 -- `ConvOp`, in ast.rs order
 unfoldable pub instConvOps : List (List ℕ)
-instConvOps =
-    bytes "trunc" ∷ bytes "zext" ∷ bytes "sext" ∷ bytes "ptrtoint" ∷ bytes "inttoptr" ∷ bytes "bitcast" ∷ bytes "sitofp" ∷
-    bytes "uitofp" ∷ bytes "fptosi" ∷ bytes "fptoui" ∷ bytes "fpext" ∷ bytes "fptrunc" ∷ []
+instConvOps = table "trunc zext sext ptrtoint inttoptr bitcast sitofp uitofp fptosi fptoui fpext fptrunc"
 
 -- a word among those of a table, by its rank
 unfoldable pub among : {A : Type 0} → List ℕ → List (List ℕ) → (ℕ → Prog A) → Prog A → Prog A
-among w table p q = elim (ltb (rank w table) (length table)) [ true ↦ p (rank w table) | false ↦ q ]
+among w ks p q = elim (ltb (rank w ks) (length ks)) [ true ↦ p (rank w ks) | false ↦ q ]
 
 unfoldable pub isWordThen : {A : Type 0} → List ℕ → List ℕ → Prog A → Prog A → Prog A
 isWordThen w kw p q = elim (sameWord w kw) [ true ↦ p | false ↦ q ]
 
 unfoldable pub tailWords : List (List ℕ)
-tailWords = bytes "tail" ∷ bytes "musttail" ∷ bytes "notail" ∷ []
+tailWords = table "tail musttail notail"
 
 -- `parse_value_inst`, behind its opcode w with quotes and escapes undone. 18: "Neither `atomicrmw` behind a `=`"; 9 where no opcode is w.
 unfoldable pub valueInst : ℕ → List ℕ → Prog (List ℕ)

@@ -174,10 +174,7 @@ nameOf i w = elim (isEmptyWord w) [ true ↦ refuse qToken | false ↦ ret (pack
 
 -- a name behind its sigil
 unfoldable pub nameWord : Prog ℕ
-nameWord = do
-  i ← place
-  w ← readWord
-  nameOf i w
+nameWord = place >>= λ i. (readWord >>= λ w. nameOf i w)
 
 -- `parse_local_name`
 unfoldable pub parseLocalName : Prog ℕ

@@ -68,7 +68,8 @@ unfoldable pub log2 : ℕ → ℕ → ℕ
 log2 zero n = 0
 log2 (suc u) n = test (ltb n 2) (λ x. 0) (λ x. suc (log2 u (n / 2)))
 
--- IEEE 754: the bits of a float are its sign, its exponent plus a bias, its fraction. Exponent 0 is a subnormal's, the highest infinity's and NaN's.
+-- IEEE 754: the bits of a float are its sign, its exponent plus a bias, its fraction. Exponent 0 is a subnormal's, the highest, which is twice the
+-- bias and 1, infinity's and NaN's.
 -- For the others a 1 stands in front of the fraction, which is not written: both together are the significand.
 abbrev pub fraction32 : ℕ
 fraction32 = 23
@@ -76,17 +77,11 @@ fraction32 = 23
 abbrev pub bias32 : ℕ
 bias32 = 127
 
-abbrev pub highest32 : ℕ
-highest32 = 255
-
 abbrev pub fraction64 : ℕ
 fraction64 = 52
 
 abbrev pub bias64 : ℕ
 bias64 = 1023
-
-abbrev pub highest64 : ℕ
-highest64 = 2047
 
 -- a NaN's quiet bit, the highest of its fraction
 abbrev pub quiet32 : ℕ
@@ -98,7 +93,7 @@ moved f = f * 2 ^ (fraction64 - fraction32)
 
 -- the highest exponent: "A NaN keeps its payload with the quiet bit set."
 unfoldable pub specialBits : ℕ → ℕ
-specialBits f = highest64 * 2 ^ fraction64 + pick (eqb f 0) 0 (moved (pick (leb quiet32 f) f (f + quiet32)))
+specialBits f = (2 * bias64 + 1) * 2 ^ fraction64 + pick (eqb f 0) 0 (moved (pick (leb quiet32 f) f (f + quiet32)))
 
 -- A subnormal is f times 2 to the 1 - bias32 - fraction32. "In widening, a subnormal is shifted by its count of leading zeros": bit h is its
 -- highest, which is not written then.
@@ -112,7 +107,7 @@ subnormalBits f = subnormalAt (log2 fraction32 f) f
 unfoldable pub widenParts : ℕ → ℕ → ℕ → ℕ
 widenParts s e f =
     s * 2 ^ 63 +
-    pick (eqb e highest32) (specialBits f)
+    pick (eqb e (2 * bias32 + 1)) (specialBits f)
     (pick (eqb e 0) (pick (eqb f 0) 0 (subnormalBits f))
     ((e + (bias64 - bias32)) * 2 ^ fraction64 + moved f))
 
@@ -186,11 +181,10 @@ unfoldable pub readSign : Prog Bool
 readSign = byteIf (byte "+") (ret false) (byteIf (byte "-") (ret true) (ret false))
 
 unfoldable pub readExponent : List ℕ → Bool → List ℕ → Prog Numeral
-readExponent w p f =
-    (do
-      s ← readSign
-      e ← digits
-      ret (record { whole = w; point = p; part = f; exponent = true; down = s; power = e }))
+readExponent w p f = do
+  s ← readSign
+  e ← digits
+  ret (record { whole = w; point = p; part = f; exponent = true; down = s; power = e })
 
 unfoldable pub behindPoint : List ℕ → Bool → List ℕ → Prog Numeral
 behindPoint w p f =

@@ -17,7 +17,7 @@ use Rattle.grammar.specs.Types as Types
 use Rattle.grammar.specs.Values as Values
 use Rattle.grammar.specs.Instructions as Instructions
 use Rattle.grammar.specs.Body as Body
-use Rattle.grammar.specs.Function as Again
+use Rattle.grammar.specs.Function
 
 -- What is asked of a text: a full reading, a re-reading from an older text, a type or a value at its start.
 pub data Asked : Type 0 where
@@ -41,7 +41,7 @@ shownAgain (Pieces.again-left l a b) = shownLeft (a ∷ b ∷ []) l
 
 abbrev pub againFrom : List ℕ → List ℕ → Pieces.Left → List ℕ
 againFrom older newer (Pieces.left (Pieces.refusedAt q p) ws ds) = 0 ∷ q ∷ p ∷ []
-againFrom older newer (Pieces.left (Pieces.count n) ws ds) = shownAgain (Again.rereadingOf ws ds n older newer)
+againFrom older newer (Pieces.left (Pieces.count n) ws ds) = shownAgain (Function.rereadingOf ws ds n older newer)
 
 abbrev pub shownType : Prog.Res Types.TypeOut → List ℕ
 shownType (Prog.ok (Types.plain t) j) = 1 ∷ j ∷ t
@@ -89,22 +89,22 @@ unfolding
     Values.cstring Values.leafValues Values.pairWith Values.pairChild Values.pairList Values.aggregate Values.packedConst
     Values.parseGepFlags Values.gepIndices Values.parseCeGep Values.parseCeConv Values.parseCeBin Values.constExprs Values.valueWith
     Values.parseValue Values.parseTypedVal
-    Instructions.labelNode Instructions.parseOperand Instructions.parseTrailingIn Instructions.parseTrailing Instructions.orderings
-    Instructions.skipAtomicOrdering Instructions.twoOperands Instructions.parseBin Instructions.parseFbin Instructions.parseFneg
+    Instructions.labelNode Instructions.parseOperand Instructions.clausesIn Instructions.parseTrailing Instructions.ending Instructions.orderings
+    Instructions.skipAtomicOrdering Instructions.twoOperands Instructions.binary Instructions.unary Instructions.parseBin Instructions.parseFbin Instructions.parseFneg
     Instructions.noParen Instructions.parseConv Instructions.icmpPreds Instructions.fcmpPreds Instructions.predicate Instructions.parseIcmp
     Instructions.parseFcmp Instructions.parseSelect Instructions.loadOperands Instructions.storeOperands Instructions.access
     Instructions.parseLoad Instructions.parseStore Instructions.parseCmpxchg Instructions.parseExtractvalue Instructions.parseFence
-    Instructions.allocaRest Instructions.allocaNode Instructions.parseAlloca Instructions.gepInstIndices Instructions.parseGepInst
+    Instructions.allocaNode Instructions.parseAlloca Instructions.gepInstIndices Instructions.parseGepInst
     Instructions.phiItems Instructions.parsePhi Instructions.parseFreeze Instructions.argItem Instructions.parseArgList
     Instructions.funcNode Instructions.callRest Instructions.callOf Instructions.parseCall Instructions.parseTailCall Instructions.parseRet
-    Instructions.target Instructions.parseBr Instructions.caseWords Instructions.caseInt Instructions.switchCases Instructions.switchNode
+    Instructions.target Instructions.parseBr Instructions.caseInt Instructions.switchCases Instructions.switchNode
     Instructions.parseSwitch Instructions.parseUnreachable Instructions.fbinOps Instructions.instConvOps Instructions.among
     Instructions.isWordThen Instructions.tailWords Instructions.valueInst Instructions.plainInst
     Body.parseInst Body.asTerminator Body.opcode Body.statementOf Body.wordStatement Body.parseStatement Body.finishBlock Body.overAt
     Body.parseBody Body.parseBlock Body.paramOf Body.parseParam Body.parseParamList Body.headNode Body.parseHead
-    Again.headAt Again.blockAt Again.readingOf Again.rereadingOf
-answer (function text) = shownLeft [] (Again.readingOf 11 6 text)
-answer (edit older newer) = againFrom older newer (Again.readingOf 11 6 older)
+    Function.headAt Function.blockAt Function.readingOf Function.rereadingOf
+answer (function text) = shownLeft [] (Function.readingOf 11 6 text)
+answer (edit older newer) = againFrom older newer (Function.readingOf 11 6 older)
 answer (type text) = shownType (Prog.run (Types.parseType Limits.depthLimit) 0 text)
 answer (value text) = shownValue (Prog.run (Values.parseValue Limits.depthLimit) 0 text)
 

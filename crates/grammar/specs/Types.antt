@@ -8,10 +8,10 @@ use Rattle.program.specs.Bytes.{bytes, byte}
 use Rattle.program.specs.Choice.{pick}
 use Rattle.program.specs.Prog.{Prog, ret, fail, _>>=_}
 use Rattle.records.specs.Words.{header, node}
-use Rattle.records.specs.Kinds.{kVoid, kInt, kFloat, kDouble, kPtr, kArray, kNamed, kStruct, kLabel, kMetadata}
+use Rattle.records.specs.Kinds.{kind, Void, Int, Float, Double, Ptr, Array, Named, Struct, Label, Metadata}
 use Rattle.records.specs.Limits.{turns, widthLimit, numberLimit, childLimit, listTurns}
 use Rattle.records.specs.Questions.{qToken, qType, qDepth, qChildren}
-use Rattle.records.specs.Details.{dPacked}
+use Rattle.records.specs.Details.{dPacked, dDots}
 use Rattle.grammar.specs.Lexer.{refuse, place, eatWs, byteIf, wordIf, tokenIf, expectToken, expectKeyword, dotsIf, nameWord, skipParens}
 use Rattle.grammar.specs.Numbers.{parseInt}
 use Rattle.grammar.specs.Attributes.{skipAttrs}
@@ -52,7 +52,7 @@ whole q f = f >>= wholeOf q
 
 -- what refuses a `(` behind a type, the next child after n: the one too many is refused with 19 there too
 unfoldable pub behind : ℕ → ℕ → ℕ
-behind n q = pick (ltb n childLimit) q 19
+behind n q = pick (ltb n childLimit) q qChildren
 
 unfoldable pub typeChild : ℕ → ℕ → Prog TypeOut → Prog (List ℕ)
 typeChild n q f = child n (whole (behind n q) f)
@@ -84,52 +84,42 @@ structFields elem =
 
 -- a type with attributes behind it, the next child after n
 unfoldable pub typeItem : Prog TypeOut → ℕ → Prog (List ℕ)
-typeItem elem n = do
-  t ← typeChild n qToken elem
-  _ ← skipAttrs
-  ret t
+typeItem elem n = typeChild n qToken elem >>= λ t. (skipAttrs >>= λ _. ret t)
 
 -- Types with attributes behind each, through the closing parenthesis (`parse_type_list`). The count is that of the function type's node: "a dropped
 -- type list counts with its return type".
 unfoldable pub parseTypeList : ℕ → Prog TypeOut → Prog Listed
-parseTypeList bad elem = eatWs >>= λ _. byteIf (byte ")") (ret (listed 1 0 [])) (dotsList listTurns 1 1 bad (typeItem elem) 1 [])
+parseTypeList bad elem = eatWs >>= λ _. byteIf (byte ")") (ret (listed 1 0 [])) (dotsList listTurns 1 dDots bad (typeItem elem) 1 [])
 
 abbrev pub ptrWords : List ℕ
-ptrWords = header kPtr 0 0 1 ∷ []
+ptrWords = header (kind Ptr) 0 0 1 ∷ []
 
 -- Question 15: "Integer width 1 to 8,388,608"
 unfoldable pub intType : Prog (List ℕ)
-intType = do
-  n ← parseInt 1 widthLimit
-  ret (node kInt 0 0 (n ∷ []))
+intType = parseInt 1 widthLimit >>= λ n. ret (node (kind Int) 0 0 (n ∷ []))
 
 -- a node that holds a name
 unfoldable pub nameNode : ℕ → Prog (List ℕ)
-nameNode kind = do
-  n ← nameWord
-  ret (node kind 0 0 (n ∷ []))
+nameNode k = nameWord >>= λ n. ret (node k 0 0 (n ∷ []))
 
 unfoldable pub optAddrspace : Prog (Unit {0})
 optAddrspace = wordIf (bytes "addrspace") skipParens (ret tt)
 
 -- `ptr`, and an `addrspace(..)` directly after it, white space allowed
 unfoldable pub ptrType : Prog (List ℕ)
-ptrType = do
-  _ ← eatWs
-  _ ← optAddrspace
-  ret (node kPtr 0 0 [])
+ptrType = eatWs >>= λ _. (optAddrspace >>= λ _. ret (node (kind Ptr) 0 0 []))
 
 -- the types that hold no other, or g
 unfoldable pub leafTypes : Prog (List ℕ) → Prog (List ℕ)
 leafTypes g =
-    wordIf (bytes "void") (ret (node kVoid 0 0 []))
-    (wordIf (bytes "float") (ret (node kFloat 0 0 []))
-    (wordIf (bytes "double") (ret (node kDouble 0 0 []))
+    wordIf (bytes "void") (ret (node (kind Void) 0 0 []))
+    (wordIf (bytes "float") (ret (node (kind Float) 0 0 []))
+    (wordIf (bytes "double") (ret (node (kind Double) 0 0 []))
     (wordIf (bytes "ptr") ptrType
-    (wordIf (bytes "label") (ret (node kLabel 0 0 []))
-    (wordIf (bytes "metadata") (ret (node kMetadata 0 0 []))
+    (wordIf (bytes "label") (ret (node (kind Label) 0 0 []))
+    (wordIf (bytes "metadata") (ret (node (kind Metadata) 0 0 []))
     (byteIf (byte "i") intType
-    (byteIf (byte "%") (nameNode kNamed)
+    (byteIf (byte "%") (nameNode (kind Named))
     g)))))))
 
 -- `[N x T]` and `<N x T>`, behind the opening byte
@@ -140,12 +130,10 @@ arrayType packed end elem = do
   _ ← expectKeyword (bytes "x")
   t ← whole qToken elem
   _ ← expectToken end
-  ret (node kArray packed 1 (n ∷ t))
+  ret (node (kind Array) packed 1 (n ∷ t))
 
 unfoldable pub structType : Prog TypeOut → Prog (List ℕ)
-structType elem = do
-  l ← structFields elem
-  ret (node kStruct 0 (countOf l) (wordsOf l))
+structType elem = structFields elem >>= λ l. ret (node (kind Struct) 0 (countOf l) (wordsOf l))
 
 -- `<{..}>` or `<N x T>`, behind the `<`
 unfoldable pub packedType : Prog TypeOut → Prog (List ℕ)
@@ -154,7 +142,7 @@ packedType elem =
     (do
       l ← structFields elem
       _ ← expectToken (byte ">")
-      ret (node kStruct dPacked (countOf l) (wordsOf l)))
+      ret (node (kind Struct) dPacked (countOf l) (wordsOf l)))
     (arrayType dPacked (byte ">") elem)
 
 -- `parse_base_type`

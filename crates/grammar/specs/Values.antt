@@ -4,11 +4,11 @@ use mathlib.Core.Bool.{Bool, true, false}
 use mathlib.Core.List.{List, [], _∷_, _++_}
 use Prim.Native.Nat.{ℕ, zero, suc, _+_}
 use lib.ListN.{length}
-use Rattle.program.specs.Bytes.{bytes, byte}
+use Rattle.program.specs.Bytes.{bytes, byte, table}
 use Rattle.program.specs.Class.{isDigit}
 use Rattle.program.specs.Prog.{Prog, ret, fail, look, eat, lead, _>>=_}
 use Rattle.records.specs.Words.{node}
-use Rattle.records.specs.Kinds.{kLocal, kGlobal, kIntConst, kFloatConst, kNull, kUndef, kPoison, kZeroInit, kCStr, kArrayConst, kStructConst, kGepExpr, kConvExpr, kBinExpr}
+use Rattle.records.specs.Kinds.{kind, Local, Global, IntConst, FloatConst, Null, Undef, Poison, ZeroInit, CStr, ArrayConst, StructConst, GepExpr, ConvExpr, BinExpr}
 use Rattle.records.specs.Limits.{turns, listTurns}
 use Rattle.records.specs.Questions.{qToken, qValue, qDepth, qChildren}
 use Rattle.records.specs.Details.{dInbounds}
@@ -19,30 +19,25 @@ use Rattle.grammar.specs.Types.{Listed, listed, countOf, wordsOf, TypeOu
 
 -- `ConvOp`, in ast.rs order; a constant expression has the first six (`match_conv_op`)
 unfoldable pub convOps : List (List ℕ)
-convOps =
-    bytes "trunc" ∷ bytes "zext" ∷ bytes "sext" ∷ bytes "ptrtoint" ∷ bytes "inttoptr" ∷ bytes "bitcast" ∷ []
+convOps = table "trunc zext sext ptrtoint inttoptr bitcast"
 
 -- `BinOp`, in ast.rs order (`match_bin_op`)
 unfoldable pub binOps : List (List ℕ)
-binOps =
-    bytes "add" ∷ bytes "sub" ∷ bytes "mul" ∷ bytes "udiv" ∷ bytes "sdiv" ∷ bytes "urem" ∷ bytes "srem" ∷
-    bytes "and" ∷ bytes "or" ∷ bytes "xor" ∷ bytes "shl" ∷ bytes "lshr" ∷ bytes "ashr" ∷ []
+binOps = table "add sub mul udiv sdiv urem srem and or xor shl lshr ashr"
 
 -- the word at the cursor begins so (`match_chars`, no end test)
 unfoldable pub prefixIf : {A : Type 0} → List ℕ → Prog A → Prog A → Prog A
 prefixIf kw p q = lead (λ w. elim (startsWith kw w) [ true ↦ eatN (length kw) p | false ↦ q ])
 
 unfoldable pub literalWords : Literal → List ℕ
-literalWords (int hl) = node kIntConst 0 0 hl
-literalWords (float b) = node kFloatConst 0 0 (b ∷ [])
+literalWords (int hl) = node (kind IntConst) 0 0 hl
+literalWords (float b) = node (kind FloatConst) 0 0 (b ∷ [])
 
 unfoldable pub floatNode : ℕ → Prog (List ℕ)
-floatNode b = ret (node kFloatConst 0 0 (b ∷ []))
+floatNode b = ret (node (kind FloatConst) 0 0 (b ∷ []))
 
 unfoldable pub numeral : Bool → Prog (List ℕ)
-numeral neg = do
-  l ← parseNumeral neg
-  ret (literalWords l)
+numeral neg = parseNumeral neg >>= λ l. ret (literalWords l)
 
 unfoldable pub digitIf : {A : Type 0} → Prog A → Prog A → Prog A
 digitIf p q = look (λ x. elim (isDigit x) [ true ↦ p | false ↦ q ])
@@ -69,22 +64,20 @@ cstring = do
   i ← place
   eat (do
     j ← place
-    byteIf 34 (do
-      n ← cstringAt j
-      ret (node kCStr 0 0 (n ∷ []))) (fail qValue i))
+    byteIf (byte "\"") (cstringAt j >>= λ n. ret (node (kind CStr) 0 0 (n ∷ []))) (fail qValue i))
 
 -- the values that hold no other, or g
 unfoldable pub leafValues : Prog (List ℕ) → Prog (List ℕ)
 leafValues g =
-    byteIf (byte "%") (nameNode kLocal)
-    (byteIf (byte "@") (nameNode kGlobal)
+    byteIf (byte "%") (nameNode (kind Local))
+    (byteIf (byte "@") (nameNode (kind Global))
     (numericOr
-    (wordIf (bytes "true") (ret (node kIntConst 0 0 (0 ∷ 1 ∷ [])))
-    (wordIf (bytes "false") (ret (node kIntConst 0 0 (0 ∷ 0 ∷ [])))
-    (wordIf (bytes "null") (ret (node kNull 0 0 []))
-    (wordIf (bytes "undef") (ret (node kUndef 0 0 []))
-    (wordIf (bytes "poison") (ret (node kPoison 0 0 []))
-    (wordIf (bytes "zeroinitializer") (ret (node kZeroInit 0 0 []))
+    (wordIf (bytes "true") (ret (node (kind IntConst) 0 0 (0 ∷ 1 ∷ [])))
+    (wordIf (bytes "false") (ret (node (kind IntConst) 0 0 (0 ∷ 0 ∷ [])))
+    (wordIf (bytes "null") (ret (node (kind Null) 0 0 []))
+    (wordIf (bytes "undef") (ret (node (kind Undef) 0 0 []))
+    (wordIf (bytes "poison") (ret (node (kind Poison) 0 0 []))
+    (wordIf (bytes "zeroinitializer") (ret (node (kind ZeroInit) 0 0 []))
     (wordAtIf (bytes "c") cstring
     (prefixIf (bytes "f0x") (parseF0x >>= floatNode)
     g))))))))))
@@ -108,9 +101,7 @@ unfoldable pub pairList : ℕ → Prog TypeOut → Prog (List ℕ) → Prog List
 pairList end type value = eatWs >>= λ _. byteIf end (ret (listed 0 0 [])) (commaList listTurns 2 end (pairChild type value) 0 [])
 
 unfoldable pub aggregate : ℕ → ℕ → Prog TypeOut → Prog (List ℕ) → Prog (List ℕ)
-aggregate kind end type value = do
-  l ← pairList end type value
-  ret (node kind 0 (countOf l) (wordsOf l))
+aggregate k end type value = pairList end type value >>= λ l. ret (node k 0 (countOf l) (wordsOf l))
 
 -- `<{ .. }>`: "Packed struct constants lose their packing." A `<` before anything else is no value.
 unfoldable pub packedConst : ℕ → Prog TypeOut → Prog (List ℕ) → Prog (List ℕ)
@@ -119,7 +110,7 @@ packedConst i type value =
     (do
       l ← pairList (byte "}") type value
       _ ← expectToken (byte ">")
-      ret (node kStructConst 0 (countOf l) (wordsOf l)))
+      ret (node (kind StructConst) 0 (countOf l) (wordsOf l)))
     (fail qValue i)
 
 -- `parse_gep_flags`: 1 where `inbounds` is among them
@@ -153,7 +144,7 @@ parseCeGep type value = do
   _ ← expectToken (byte ",")
   x ← pairWith type value
   l ← gepIndices listTurns type value 3 []
-  ret (node kGepExpr inbounds (countOf l) ((t ++ x) ++ wordsOf l))
+  ret (node (kind GepExpr) inbounds (countOf l) ((t ++ x) ++ wordsOf l))
 
 -- a conversion of a constant, behind the word (`parse_ce_conv_body`)
 unfoldable pub parseCeConv : ℕ → Prog TypeOut → Prog (List ℕ) → Prog (List ℕ)
@@ -163,7 +154,7 @@ parseCeConv op type value = do
   _ ← expectKeyword (bytes "to")
   t ← whole qToken type
   _ ← expectToken (byte ")")
-  ret (node kConvExpr op 3 (x ++ t))
+  ret (node (kind ConvExpr) op 3 (x ++ t))
 
 -- an operation on two constants, behind the word
 unfoldable pub parseCeBin : ℕ → Prog TypeOut → Prog (List ℕ) → Prog (List ℕ)
@@ -174,7 +165,7 @@ parseCeBin op type value = do
   _ ← expectToken (byte ",")
   y ← pairWith type value
   _ ← expectToken (byte ")")
-  ret (node kBinExpr op 4 (x ++ y))
+  ret (node (kind BinExpr) op 4 (x ++ y))
 
 unfoldable pub constExprs : Prog TypeOut → Prog (List ℕ) → Prog (List ℕ)
 constExprs type value =
@@ -189,8 +180,8 @@ valueWith type value = do
   _ ← eatWs
   i ← place
   leafValues
-      (byteIf (byte "[") (aggregate kArrayConst (byte "]") type value)
-      (byteIf (byte "{") (aggregate kStructConst (byte "}") type value)
+      (byteIf (byte "[") (aggregate (kind ArrayConst) (byte "]") type value)
+      (byteIf (byte "{") (aggregate (kind StructConst) (byte "}") type value)
       (byteIf (byte "<") (packedConst i type value)
       (constExprs type value))))
 

@@ -20,19 +20,19 @@ fn parse_param(classes: &[u8; 256], text: &[u8], words: &mut [u64], p: Parsed) -
     requires { ⌜ Classes (now classes) ⌝ }
     ensures { λ r. ⌜ ((q : ℕ) → Leads (parseParam q) 2 [] (parameter q (now (text .entry)) p) (now (text .entry)) p p (now (words .entry)) r (now (words .exit))) ⌝ }
 {
-    let p1 = writer::push(words, p, 0);
-    let p2 = writer::push(words, p1, 0);
-    let p3 = types::parse_type(classes, text, words, p2, records::DEPTH_LIMIT);
-    let p4 = attributes::skip_attrs(classes, text, p3);
-    let p5 = lexer::eat_ws(classes, text, p4);
-    if lexer::looks(text, p5, b'%') {
-        let p6 = lexer::pass(text, p5, 1);
-        let n = names::name_word(classes, text, p6);
-        let p7 = n.p;
-        let p8 = writer::patch(words, p, p7, 1, n.v);
-        return writer::close(words, p, p8, records::K_PARAM, records::D_NAMED, 1);
+    let q = writer::push(words, p, 0);
+    let q1 = writer::push(words, q, 0);
+    let q2 = types::parse_type(classes, text, words, q1, records::DEPTH_LIMIT);
+    let q3 = attributes::skip_attrs(classes, text, q2);
+    let q4 = lexer::eat_ws(classes, text, q3);
+    if lexer::looks(text, q4, b'%') {
+        let q5 = lexer::pass(text, q4, 1);
+        let n = names::name_word(classes, text, q5);
+        let q6 = n.p;
+        let q7 = writer::patch(words, p, q6, 1, n.v);
+        return writer::close(words, p, q7, records::K_PARAM, records::D_NAMED, 1);
     }
-    writer::close(words, p, p5, records::K_PARAM, 0, 1)
+    writer::close(words, p, q4, records::K_PARAM, 0, 1)
 }
 
 // Parameters, `...` in the last place, through the parenthesis (`parse_param_list`). The return type is a child before them.
@@ -52,15 +52,19 @@ fn parse_param_list(classes: &[u8; 256], text: &[u8], words: &mut [u64], p: Pars
     let mut left: usize = records::LIST_TURNS;
     let mut n: u16 = 1;
     while 0 < left {
-        let q1 = lexer::eat_ws(classes, text, q);
-        if lexer::looks(text, q1, b'.') {
-            let q2 = names::three_dots(text, q1, records::Q_TYPE);
-            let q3 = lexer::expect_token(classes, text, q2, b')');
-            return Listed { p: q3, n, dots: 1 };
+        let r = lexer::eat_ws(classes, text, q);
+        if lexer::looks(text, r, b'.') {
+            let r1 = names::three_dots(text, r, records::Q_TYPE);
+            let r2 = lexer::expect_token(classes, text, r1, b')');
+            return Listed {
+                p: r2,
+                n,
+                dots: records::D_DOTS,
+            };
         }
-        let q2 = parse_param(classes, text, words, q1);
-        let q3 = lexer::count_child(q2, n);
-        let e = lexer::comma_or(classes, text, q3, b')');
+        let r3 = parse_param(classes, text, words, r);
+        let r4 = lexer::count_child(r3, n);
+        let e = lexer::comma_or(classes, text, r4, b')');
         n = types::one_more(n);
         q = e.p;
         if e.more {
@@ -88,30 +92,30 @@ fn head_node(classes: &[u8; 256], text: &[u8], words: &mut [u64], p: Parsed) -> 
     requires { ⌜ Classes (now classes) ⌝ }
     ensures { λ r. ⌜ Leads parseHead 2 [] (shuts (now (text .entry)) p) (now (text .entry)) p p (now (words .entry)) r (now (words .exit)) ⌝ }
 {
-    let p1 = writer::push(words, p, 0);
-    let p2 = writer::push(words, p1, 0);
-    let k = attributes::parse_linkage(classes, text, p2);
+    let mut q = writer::push(words, p, 0);
+    q = writer::push(words, q, 0);
+    let k = attributes::parse_linkage(classes, text, q);
     let linkage = rank_byte(k.r);
-    let p3 = k.p;
-    let p4 = attributes::skip_attrs(classes, text, p3);
-    let p5 = attributes::skip_call_cconv(classes, text, p4);
-    let p6 = attributes::skip_attrs(classes, text, p5);
-    let p7 = types::parse_type(classes, text, words, p6, records::DEPTH_LIMIT);
-    let name = names::parse_global_name(classes, text, p7);
-    let p8 = name.p;
-    let p9 = writer::patch(words, p, p8, 1, name.v);
-    let p10 = lexer::expect_token(classes, text, p9, b'(');
-    let l = parse_param_list(classes, text, words, p10);
-    let p11 = l.p;
+    q = k.p;
+    q = attributes::skip_attrs(classes, text, q);
+    q = attributes::skip_call_cconv(classes, text, q);
+    q = attributes::skip_attrs(classes, text, q);
+    q = types::parse_type(classes, text, words, q, records::DEPTH_LIMIT);
+    let name = names::parse_global_name(classes, text, q);
+    q = name.p;
+    q = writer::patch(words, p, q, 1, name.v);
+    q = lexer::expect_token(classes, text, q, b'(');
+    let l = parse_param_list(classes, text, words, q);
+    q = l.p;
     let dots = l.dots;
-    let p12 = attributes::skip_attrs(classes, text, p11);
-    let p13 = lexer::eat_ws(classes, text, p12);
-    if lexer::looks(text, p13, b'{') {
-        let p14 = lexer::pass(text, p13, 1);
+    q = attributes::skip_attrs(classes, text, q);
+    q = lexer::eat_ws(classes, text, q);
+    if lexer::looks(text, q, b'{') {
+        q = lexer::pass(text, q, 1);
         let detail = linkage + records::D_VARARGS * dots;
-        return writer::close(words, p, p14, records::K_HEAD, detail, l.n);
+        return writer::close(words, p, q, records::K_HEAD, detail, l.n);
     }
-    lexer::refuse(p13, records::Q_TOKEN)
+    lexer::refuse(q, records::Q_TOKEN)
 }
 
 // The answer of a piece that is closed.

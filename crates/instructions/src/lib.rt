@@ -5,8 +5,9 @@ use lexer::Parsed;
 use lexer::Ranked;
 use types::Listed;
 ghost use mathlib.Core.Path.{_≡_};
-ghost use mathlib.Core.List.{[]};
-ghost use Rattle.grammar.specs.Instructions.{twoOperands, parseBin, parseFbin, parseFneg, parseIcmp, parseFcmp, parseSelect, parseFreeze, icmpPreds, fcmpPreds, predicate, parseConv, phiItems, parsePhi};
+ghost use mathlib.Core.List.{[], _∷_};
+ghost use Prim.Native.Nat.{ℕ};
+ghost use Rattle.grammar.specs.Instructions.{twoOperands, binary, unary, parseBin, parseFbin, parseFneg, parseIcmp, parseFcmp, parseSelect, parseFreeze, icmpPreds, fcmpPreds, predicate, parseConv, phiItems, parsePhi};
 ghost use Rattle.lexer.specs.Table.{Classes};
 ghost use Rattle.lexer.specs.Reads.{Leads, Reads, made, same, Gives};
 ghost use Rattle.program.specs.Bytes.{bytes};
@@ -15,14 +16,47 @@ ghost use Rattle.lexer.specs.Step.{rankP, rankedP};
 ghost use Rattle.grammar.specs.Types.{listed};
 
 // T V, V
-pub fn two_operands(classes: &[u8; 256], text: &[u8], words: &mut [u64], p: Parsed) -> Parsed
+fn two_operands(classes: &[u8; 256], text: &[u8], words: &mut [u64], p: Parsed) -> Parsed
     requires { ⌜ Classes (now classes) ⌝ }
     ensures { λ r. ⌜ Reads twoOperands (now (text .entry)) p (now (words .entry)) r (now (words .exit)) ⌝ }
 {
-    let p1 = types::parse_type(classes, text, words, p, records::DEPTH_LIMIT);
-    let p2 = values::parse_value(classes, text, words, p1, records::DEPTH_LIMIT);
-    let p3 = lexer::expect_token(classes, text, p2, b',');
-    values::parse_value(classes, text, words, p3, records::DEPTH_LIMIT)
+    let q = types::parse_type(classes, text, words, p, records::DEPTH_LIMIT);
+    let q1 = values::parse_value(classes, text, words, q, records::DEPTH_LIMIT);
+    let q2 = lexer::expect_token(classes, text, q1, b',');
+    values::parse_value(classes, text, words, q2, records::DEPTH_LIMIT)
+}
+
+// T V, V to the end of an operation or a comparison; the node was begun at p0.
+fn binary(
+    classes: &[u8; 256],
+    text: &[u8],
+    words: &mut [u64],
+    p0: Parsed,
+    p: Parsed,
+    kind: u8,
+    d: u8,
+) -> Parsed
+    requires { ⌜ Classes (now classes) ⌝ }
+    ensures { λ r. ⌜ ((dest : ℕ) → Leads (binary kind d dest) 0 (0 ∷ dest ∷ []) (made same (now (text .entry)) p0) (now (text .entry)) p0 p (now (words .entry)) r (now (words .exit))) ⌝ }
+{
+    let q = two_operands(classes, text, words, p);
+    operands::end(classes, text, words, p0, q, kind, d, 3)
+}
+
+// T V to the end; the node was begun at p0.
+fn unary(
+    classes: &[u8; 256],
+    text: &[u8],
+    words: &mut [u64],
+    p0: Parsed,
+    p: Parsed,
+    kind: u8,
+) -> Parsed
+    requires { ⌜ Classes (now classes) ⌝ }
+    ensures { λ r. ⌜ ((dest : ℕ) → Leads (unary kind dest) 0 (0 ∷ dest ∷ []) (made same (now (text .entry)) p0) (now (text .entry)) p0 p (now (words .entry)) r (now (words .exit))) ⌝ }
+{
+    let q = values::parse_typed_val(classes, text, words, p, records::DEPTH_LIMIT);
+    operands::end(classes, text, words, p0, q, kind, 0, 2)
 }
 
 // `add T V, V` and its like.
@@ -37,13 +71,9 @@ pub fn parse_bin(
     requires { ⌜ Classes (now classes) ⌝ }
     ensures { λ r. ⌜ Leads (parseBin op dest) 2 [] (made same (now (text .entry)) p) (now (text .entry)) p p (now (words .entry)) r (now (words .exit)) ⌝ }
 {
-    let p1 = writer::push(words, p, 0);
-    let p2 = writer::push(words, p1, dest);
-    let p3 = attributes::skip_arith_flags(classes, text, p2);
-    let p4 = two_operands(classes, text, words, p3);
-    let t = operands::parse_trailing(classes, text, p4);
-    let p5 = t.p;
-    writer::close(words, p, p5, records::K_BIN, op, 3)
+    let q = writer::begin(words, p, dest);
+    let q1 = attributes::skip_arith_flags(classes, text, q);
+    binary(classes, text, words, p, q1, records::K_BIN, op)
 }
 
 // `fadd T V, V` and its like.
@@ -58,13 +88,9 @@ pub fn parse_fbin(
     requires { ⌜ Classes (now classes) ⌝ }
     ensures { λ r. ⌜ Leads (parseFbin op dest) 2 [] (made same (now (text .entry)) p) (now (text .entry)) p p (now (words .entry)) r (now (words .exit)) ⌝ }
 {
-    let p1 = writer::push(words, p, 0);
-    let p2 = writer::push(words, p1, dest);
-    let p3 = attributes::skip_fast_math_flags(classes, text, p2);
-    let p4 = two_operands(classes, text, words, p3);
-    let t = operands::parse_trailing(classes, text, p4);
-    let p5 = t.p;
-    writer::close(words, p, p5, records::K_FBIN, op, 3)
+    let q = writer::begin(words, p, dest);
+    let q1 = attributes::skip_fast_math_flags(classes, text, q);
+    binary(classes, text, words, p, q1, records::K_FBIN, op)
 }
 
 // `fneg T V`
@@ -78,13 +104,9 @@ pub fn parse_fneg(
     requires { ⌜ Classes (now classes) ⌝ }
     ensures { λ r. ⌜ Leads (parseFneg dest) 2 [] (made same (now (text .entry)) p) (now (text .entry)) p p (now (words .entry)) r (now (words .exit)) ⌝ }
 {
-    let p1 = writer::push(words, p, 0);
-    let p2 = writer::push(words, p1, dest);
-    let p3 = attributes::skip_fast_math_flags(classes, text, p2);
-    let p4 = values::parse_typed_val(classes, text, words, p3, records::DEPTH_LIMIT);
-    let t = operands::parse_trailing(classes, text, p4);
-    let p5 = t.p;
-    writer::close(words, p, p5, records::K_FNEG, 0, 2)
+    let q = writer::begin(words, p, dest);
+    let q1 = attributes::skip_fast_math_flags(classes, text, q);
+    unary(classes, text, words, p, q1, records::K_FNEG)
 }
 
 // A predicate, as its rank.
@@ -135,15 +157,11 @@ pub fn parse_fcmp(
     requires { ⌜ Classes (now classes) ⌝ }
     ensures { λ r. ⌜ Leads (parseFcmp dest) 2 [] (made same (now (text .entry)) p) (now (text .entry)) p p (now (words .entry)) r (now (words .exit)) ⌝ }
 {
-    let p1 = writer::push(words, p, 0);
-    let p2 = writer::push(words, p1, dest);
-    let p3 = attributes::skip_fast_math_flags(classes, text, p2);
-    let k = parse_fcmp_pred(classes, text, p3);
-    let p4 = k.p;
-    let p5 = two_operands(classes, text, words, p4);
-    let t = operands::parse_trailing(classes, text, p5);
-    let p6 = t.p;
-    writer::close(words, p, p6, records::K_FCMP, k.r, 3)
+    let q = writer::begin(words, p, dest);
+    let q1 = attributes::skip_fast_math_flags(classes, text, q);
+    let k = parse_fcmp_pred(classes, text, q1);
+    let q2 = k.p;
+    binary(classes, text, words, p, q2, records::K_FCMP, k.r)
 }
 
 // `trunc T V to T` and its like. At a `(` the next statement would refuse.
@@ -158,18 +176,15 @@ pub fn parse_conv(
     requires { ⌜ Classes (now classes) ⌝ }
     ensures { λ r. ⌜ Leads (parseConv op dest) 2 [] (made same (now (text .entry)) p) (now (text .entry)) p p (now (words .entry)) r (now (words .exit)) ⌝ }
 {
-    let p1 = writer::push(words, p, 0);
-    let p2 = writer::push(words, p1, dest);
-    let p3 = attributes::skip_conv_flags(classes, text, p2);
-    let p4 = values::parse_typed_val(classes, text, words, p3, records::DEPTH_LIMIT);
-    let p5 = lexer::expect_keyword(classes, text, p4, b"to");
-    let p6 = types::parse_type(classes, text, words, p5, records::DEPTH_LIMIT);
-    if lexer::looks(text, p6, b'(') {
-        return lexer::refuse(p6, records::Q_STATEMENT);
+    let q = writer::begin(words, p, dest);
+    let q1 = attributes::skip_conv_flags(classes, text, q);
+    let q2 = values::parse_typed_val(classes, text, words, q1, records::DEPTH_LIMIT);
+    let q3 = lexer::expect_keyword(classes, text, q2, b"to");
+    let q4 = types::parse_type(classes, text, words, q3, records::DEPTH_LIMIT);
+    if lexer::looks(text, q4, b'(') {
+        return lexer::refuse(q4, records::Q_STATEMENT);
     }
-    let t = operands::parse_trailing(classes, text, p6);
-    let p7 = t.p;
-    writer::close(words, p, p7, records::K_CONV, op, 3)
+    operands::end(classes, text, words, p, q4, records::K_CONV, op, 3)
 }
 
 // A predicate of `icmp`, in ast.rs order.
@@ -216,15 +231,11 @@ pub fn parse_icmp(
     requires { ⌜ Classes (now classes) ⌝ }
     ensures { λ r. ⌜ Leads (parseIcmp dest) 2 [] (made same (now (text .entry)) p) (now (text .entry)) p p (now (words .entry)) r (now (words .exit)) ⌝ }
 {
-    let p1 = writer::push(words, p, 0);
-    let p2 = writer::push(words, p1, dest);
-    let p3 = skip_samesign(classes, text, p2);
-    let k = parse_icmp_pred(classes, text, p3);
-    let p4 = k.p;
-    let p5 = two_operands(classes, text, words, p4);
-    let t = operands::parse_trailing(classes, text, p5);
-    let p6 = t.p;
-    writer::close(words, p, p6, records::K_ICMP, k.r, 3)
+    let q = writer::begin(words, p, dest);
+    let q1 = skip_samesign(classes, text, q);
+    let k = parse_icmp_pred(classes, text, q1);
+    let q2 = k.p;
+    binary(classes, text, words, p, q2, records::K_ICMP, k.r)
 }
 
 // `select T V, T V, T V`
@@ -238,16 +249,13 @@ pub fn parse_select(
     requires { ⌜ Classes (now classes) ⌝ }
     ensures { λ r. ⌜ Leads (parseSelect dest) 2 [] (made same (now (text .entry)) p) (now (text .entry)) p p (now (words .entry)) r (now (words .exit)) ⌝ }
 {
-    let p1 = writer::push(words, p, 0);
-    let p2 = writer::push(words, p1, dest);
-    let p3 = operands::parse_operand(classes, text, words, p2);
-    let p4 = lexer::expect_token(classes, text, p3, b',');
-    let p5 = values::parse_typed_val(classes, text, words, p4, records::DEPTH_LIMIT);
-    let p6 = lexer::expect_token(classes, text, p5, b',');
-    let p7 = operands::parse_operand(classes, text, words, p6);
-    let t = operands::parse_trailing(classes, text, p7);
-    let p8 = t.p;
-    writer::close(words, p, p8, records::K_SELECT, 0, 4)
+    let q = writer::begin(words, p, dest);
+    let q1 = operands::parse_operand(classes, text, words, q);
+    let q2 = lexer::expect_token(classes, text, q1, b',');
+    let q3 = values::parse_typed_val(classes, text, words, q2, records::DEPTH_LIMIT);
+    let q4 = lexer::expect_token(classes, text, q3, b',');
+    let q5 = operands::parse_operand(classes, text, words, q4);
+    operands::end(classes, text, words, p, q5, records::K_SELECT, 0, 4)
 }
 
 // `[V, L]` behind commas, each two children behind the type.
@@ -259,27 +267,27 @@ fn phi_items(classes: &[u8; 256], text: &[u8], words: &mut [u64], p: Parsed) -> 
     let mut left: usize = records::LIST_TURNS;
     let mut n: u16 = 1;
     while 0 < left {
-        let q1 = lexer::expect_token(classes, text, q, b'[');
-        let q2 = values::parse_value(classes, text, words, q1, records::DEPTH_LIMIT);
-        let q3 = lexer::count_child(q2, n);
+        q = lexer::expect_token(classes, text, q, b'[');
+        q = values::parse_value(classes, text, words, q, records::DEPTH_LIMIT);
+        q = lexer::count_child(q, n);
         let k = types::one_more(n);
-        let q4 = lexer::expect_token(classes, text, q3, b',');
-        let l = names::parse_local_name(classes, text, q4);
-        let q5 = l.p;
-        let q6 = lexer::count_child(q5, k);
+        q = lexer::expect_token(classes, text, q, b',');
+        let l = names::parse_local_name(classes, text, q);
+        q = l.p;
+        q = lexer::count_child(q, k);
         n = types::one_more(k);
-        let q7 = lexer::expect_token(classes, text, q6, b']');
-        let q8 = operands::label_node(words, q7, l.v);
-        let q9 = lexer::eat_ws(classes, text, q8);
-        if lexer::looks(text, q9, b',') {
-            q = lexer::pass(text, q9, 1);
+        q = lexer::expect_token(classes, text, q, b']');
+        q = operands::label_node(words, q, l.v);
+        q = lexer::eat_ws(classes, text, q);
+        if lexer::looks(text, q, b',') {
+            q = lexer::pass(text, q, 1);
             left -= 1;
         } else {
-            return Listed { p: q9, n, dots: 0 };
+            return Listed { p: q, n, dots: 0 };
         }
     }
-    let q1 = lexer::refuse(q, records::Q_CHILDREN);
-    Listed { p: q1, n, dots: 0 }
+    q = lexer::refuse(q, records::Q_CHILDREN);
+    Listed { p: q, n, dots: 0 }
 }
 
 // `phi T [V, L], ..`
@@ -293,12 +301,11 @@ pub fn parse_phi(
     requires { ⌜ Classes (now classes) ⌝ }
     ensures { λ r. ⌜ Leads (parsePhi dest) 2 [] (made same (now (text .entry)) p) (now (text .entry)) p p (now (words .entry)) r (now (words .exit)) ⌝ }
 {
-    let p1 = writer::push(words, p, 0);
-    let p2 = writer::push(words, p1, dest);
-    let p3 = types::parse_type(classes, text, words, p2, records::DEPTH_LIMIT);
-    let l = phi_items(classes, text, words, p3);
-    let p4 = l.p;
-    writer::close(words, p, p4, records::K_PHI, 0, l.n)
+    let q = writer::begin(words, p, dest);
+    let q1 = types::parse_type(classes, text, words, q, records::DEPTH_LIMIT);
+    let l = phi_items(classes, text, words, q1);
+    let q2 = l.p;
+    writer::close(words, p, q2, records::K_PHI, 0, l.n)
 }
 
 // `freeze T V`
@@ -312,10 +319,6 @@ pub fn parse_freeze(
     requires { ⌜ Classes (now classes) ⌝ }
     ensures { λ r. ⌜ Leads (parseFreeze dest) 2 [] (made same (now (text .entry)) p) (now (text .entry)) p p (now (words .entry)) r (now (words .exit)) ⌝ }
 {
-    let p1 = writer::push(words, p, 0);
-    let p2 = writer::push(words, p1, dest);
-    let p3 = values::parse_typed_val(classes, text, words, p2, records::DEPTH_LIMIT);
-    let t = operands::parse_trailing(classes, text, p3);
-    let p4 = t.p;
-    writer::close(words, p, p4, records::K_FREEZE, 0, 2)
+    let q = writer::begin(words, p, dest);
+    unary(classes, text, words, p, q, records::K_FREEZE)
 }

@@ -1,4 +1,1 @@
-pub mod Tests
-pub mod Scans
-pub mod Reads
 pub mod Constants

@@ -1,17 +1,17 @@
 // A literal as its node: an integer's two words, a float's bits.
-use crate::reads::parse_f0x;
-use crate::reads::parse_hex_float;
-use crate::reads::parse_numeral;
-use crate::scans::short_digits;
 use arithmetic::literal::Literal;
 use lexer::Cursor;
 use lexer::Parsed;
+use numerals::reads::parse_f0x;
+use numerals::reads::parse_hex_float;
+use numerals::reads::parse_numeral;
+use numerals::scans::short_digits;
 use writer::push;
 ghost use mathlib.Core.List.{List, [], _∷_};
 ghost use Prim.Native.Nat.{ℕ};
 ghost use Rattle.program.specs.Prog.{ret};
 ghost use Rattle.records.specs.Words.{node};
-ghost use Rattle.records.specs.Kinds.{kIntConst};
+ghost use Rattle.records.specs.Kinds.{kind, IntConst};
 ghost use Rattle.grammar.specs.Numbers.{halves, twos};
 ghost use Rattle.grammar.specs.Values.{floatNode, numeral};
 ghost use Rattle.lexer.specs.Table.{Classes};
@@ -28,16 +28,16 @@ pub fn float_node(words: &mut [u64], p: Parsed, bits: u64) -> Parsed
 
 // An integer's node.
 pub fn int_node(words: &mut [u64], p: Parsed, hi: u64, lo: u64) -> Parsed
-    ensures { λ r. ⌜ ((text : List ℕ) → Leads (ret (node kIntConst 0 0 (hi ∷ lo ∷ []))) 3 [] (made same text p) text p p (now (words .entry)) r (now (words .exit))) ⌝ }
+    ensures { λ r. ⌜ ((text : List ℕ) → Leads (ret (node (kind IntConst) 0 0 (hi ∷ lo ∷ []))) 3 [] (made same text p) text p p (now (words .entry)) r (now (words .exit))) ⌝ }
 {
-    let p1 = push(words, p, records::INT_HEADER);
-    let p2 = push(words, p1, hi);
-    push(words, p2, lo)
+    let q = push(words, p, records::INT_HEADER);
+    let q1 = push(words, q, hi);
+    push(words, q1, lo)
 }
 
 // The node of an integer of 64 bits and a sign.
 fn short_node(words: &mut [u64], p: Parsed, v: u64, neg: bool) -> Parsed
-    ensures { λ r. ⌜ ((text : List ℕ) → Leads (ret (node kIntConst 0 0 (halves (twos neg v)))) 3 [] (made same text p) text p p (now (words .entry)) r (now (words .exit))) ⌝ }
+    ensures { λ r. ⌜ ((text : List ℕ) → Leads (ret (node (kind IntConst) 0 0 (halves (twos neg v)))) 3 [] (made same text p) text p p (now (words .entry)) r (now (words .exit))) ⌝ }
 {
     if neg {
         if v != 0 {

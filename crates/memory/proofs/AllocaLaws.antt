@@ -7,7 +7,7 @@ use Prim.Native.Nat.{ℕ, zero, suc, _+_, _*_}
 use native.Mathlib.Omega.{arith}
 use lib.ListN.{length}
 use Rattle.program.specs.Prog.{Prog, ret, ok}
-use Rattle.grammar.specs.Instructions.{allocaParts, allocaNode}
+use Rattle.grammar.specs.Instructions.{clauses, allocaNode}
 use Rattle.writer.specs.Writes.{joined, pushed, pushes, closes}
 use Rattle.lexer.specs.Reads.{At, at, out, Leads, Goal, made, same}
 use Rattle.lexer.specs.declared.Parsed.{Parsed}
@@ -33,15 +33,15 @@ unfolding counted
 counted-same zero us ws e = no-none ws e
 counted-same (suc m) us ws e = cc
 
-parts-same : (a b : Option (List ℕ)) (x y : List ℕ) (i j : ℕ) → ok (allocaParts a x) i ≡ ok (allocaParts b y) j → a ≡ b
+parts-same : (a b : Option (List ℕ)) (x y : List ℕ) (i j : ℕ) → ok (clauses a x) i ≡ ok (clauses b y) j → a ≡ b
 parts-same a b x y i j e = cc
 
 -- the count is read again
-pub shows-count : (n m : ℕ) (ws al bl : List ℕ) {text : List ℕ} {z : Parsed} → (n ≡ 0 → ⊥) → Shows (made (λ us. allocaParts (counted m us) bl) text z) (allocaParts (counted n ws) al) ws text z
+pub shows-count : (n m : ℕ) (ws al bl : List ℕ) {text : List ℕ} {z : Parsed} → (n ≡ 0 → ⊥) → Shows (made (λ us. clauses (counted m us) bl) text z) (clauses (counted n ws) al) ws text z
 shows-count n m ws al bl {text} {z} h b k low _ _ _ j e (at {ws = us} {cur = cur} {words = words} a) =
     let s : us ≡ ws = counted-same m us ws (parts-same (counted m us) (counted n ws) bl al (cur .at) j e ∙ counted-some n ws h) in
     record { cur = cur; is = refl; at = subst (λ (l : List ℕ). At b text z k low l cur words) s a }
-shows-count n m ws al bl h b k low _ _ _ j e (out {e = en} {q = x}) = ok-not (allocaParts (counted n ws) al) j en x (sym e)
+shows-count n m ws al bl h b k low _ _ _ j e (out {e = en} {q = x}) = ok-not (clauses (counted n ws) al) j en x (sym e)
 
 pub align-then : {A : Type 0} {f : Prog A} (has v : ℕ) {c : ℕ} {mid : List ℕ} {E : Goal A} {text : List ℕ} {p0 p q p′ : Parsed} {w w1 w′ : List ℕ} → (q ≡ alignedP has p) × (w1 ≡ aligns has v p w) → Leads f c (mid ++ alignOf has v) E text p0 q w1 p′ w′ → Leads f (suc c) mid E text p0 p w p′ w′
 unfolding alignedP aligns alignOf
@@ -51,11 +51,11 @@ align-then {A} {f} zero v {c} {mid} {E} {text} {p0} {p} {q} {p′} {w} {w1} {w�
     spare c (omega arith) (subst (λ (y : List ℕ). Leads f c mid E text p0 p y p′ w′) (e .1) m)
 align-then (suc has) v e r = push-then v e r
 
-pub alloca-none : (dest n d : ℕ) (t ws al : List ℕ) {c : ℕ} {text : List ℕ} {p0 p q : Parsed} {w w′ : List ℕ} → n ≡ 0 → d ≡ length al * 2 → (q ≡ p) × (w′ ≡ closes 41 d 1 p0 p w) → Leads (ret (allocaNode dest t (allocaParts (counted n ws) al))) c (0 ∷ dest ∷ (al ++ t)) (made same text p0) text p0 p w q w′
+pub alloca-none : (dest n d : ℕ) (t ws al : List ℕ) {c : ℕ} {text : List ℕ} {p0 p q : Parsed} {w w′ : List ℕ} → n ≡ 0 → d ≡ length al * 2 → (q ≡ p) × (w′ ≡ closes 41 d 1 p0 p w) → Leads (ret (allocaNode dest t (clauses (counted n ws) al))) c (0 ∷ dest ∷ (al ++ t)) (made same text p0) text p0 p w q w′
 unfolding allocaNode counted
 alloca-none dest n d t ws al {c} {text} {p0} {p} {q} {w} {w′} e f h = rw (e, ← f) (close-is 41 d 1 (dest ∷ (al ++ t)) h)
 
-pub alloca-some : (dest n d d1 : ℕ) (t ws al : List ℕ) {c : ℕ} {text : List ℕ} {p0 p q : Parsed} {w w′ : List ℕ} → (n ≡ 0 → ⊥) → d ≡ length al * 2 → d1 ≡ 1 + d → (q ≡ p) × (w′ ≡ closes 41 d1 3 p0 p w) → Leads (ret (allocaNode dest t (allocaParts (counted n ws) al))) c (0 ∷ dest ∷ ((al ++ t) ++ ws)) (made same text p0) text p0 p w q w′
+pub alloca-some : (dest n d d1 : ℕ) (t ws al : List ℕ) {c : ℕ} {text : List ℕ} {p0 p q : Parsed} {w w′ : List ℕ} → (n ≡ 0 → ⊥) → d ≡ length al * 2 → d1 ≡ 1 + d → (q ≡ p) × (w′ ≡ closes 41 d1 3 p0 p w) → Leads (ret (allocaNode dest t (clauses (counted n ws) al))) c (0 ∷ dest ∷ ((al ++ t) ++ ws)) (made same text p0) text p0 p w q w′
 unfolding allocaNode
 alloca-some dest n d d1 t ws al {c} {text} {p0} {p} {q} {w} {w′} e f g h = rw (counted-some n ws e, ← f, ← g) (close-is 41 d1 3 (dest ∷ ((al ++ t) ++ ws)) h)
 

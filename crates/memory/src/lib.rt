@@ -4,10 +4,11 @@ use lexer::Parsed;
 use types::Listed;
 ghost use mathlib.Core.Path.{_≡_};
 ghost use mathlib.Core.List.{[]};
-ghost use Prim.Native.Nat.{ℕ, _*_};
+ghost use Prim.Native.Nat.{ℕ, _+_, _*_};
 ghost use Rattle.program.specs.Bytes.{bytes};
 ghost use Rattle.grammar.specs.Lexer.{skipKeyword};
-ghost use Rattle.grammar.specs.Instructions.{skipAtomicOrdering, loadOperands, storeOperands, access, parseLoad, parseStore, gepInstIndices, parseGepInst, parseCmpxchg, allocaParts, allocaRest, parseAlloca, parseExtractvalue, parseFence};
+ghost use Rattle.grammar.specs.Instructions.{skipAtomicOrdering, loadOperands, storeOperands, access, parseLoad, parseStore, gepInstIndices, parseGepInst, parseCmpxchg, clauses, parseAlloca, parseExtractvalue, parseFence};
+ghost use Rattle.records.specs.Details.{dCount, dAllocaAlign};
 ghost use Rattle.lexer.specs.Table.{Classes};
 ghost use Rattle.lexer.specs.Step.{wordP};
 ghost use Rattle.lexer.specs.Reads.{Leads, Gives, made, same, Reads};
@@ -20,7 +21,7 @@ ghost use mathlib.Core.Option.{none};
 ghost use lib.ListN.{length};
 ghost use Rattle.operands.specs.Rich.{richly};
 ghost use Rattle.operands.specs.Dry.{Dry};
-ghost use Rattle.memory.specs.Alloca.{counted, alignedP, aligns};
+ghost use Rattle.memory.specs.Alloca.{counting, counted, alignedP, aligns};
 
 // Is `atomic` the next word?
 pub fn is_atomic(classes: &[u8; 256], text: &[u8], p: Parsed) -> bool
@@ -88,9 +89,9 @@ fn load_operands(classes: &[u8; 256], text: &[u8], words: &mut [u64], p: Parsed)
     requires { ⌜ Classes (now classes) ⌝ }
     ensures { λ r. ⌜ Reads loadOperands (now (text .entry)) p (now (words .entry)) r (now (words .exit)) ⌝ }
 {
-    let p1 = types::parse_type(classes, text, words, p, records::DEPTH_LIMIT);
-    let p2 = lexer::expect_token(classes, text, p1, b',');
-    operands::parse_operand(classes, text, words, p2)
+    let q = types::parse_type(classes, text, words, p, records::DEPTH_LIMIT);
+    let q1 = lexer::expect_token(classes, text, q, b',');
+    operands::parse_operand(classes, text, words, q1)
 }
 
 // T V, T V
@@ -98,9 +99,9 @@ fn store_operands(classes: &[u8; 256], text: &[u8], words: &mut [u64], p: Parsed
     requires { ⌜ Classes (now classes) ⌝ }
     ensures { λ r. ⌜ Reads storeOperands (now (text .entry)) p (now (words .entry)) r (now (words .exit)) ⌝ }
 {
-    let p1 = values::parse_typed_val(classes, text, words, p, records::DEPTH_LIMIT);
-    let p2 = lexer::expect_token(classes, text, p1, b',');
-    operands::parse_operand(classes, text, words, p2)
+    let q = values::parse_typed_val(classes, text, words, p, records::DEPTH_LIMIT);
+    let q1 = lexer::expect_token(classes, text, q, b',');
+    operands::parse_operand(classes, text, words, q1)
 }
 
 // The operands of a load, or of a store.
@@ -141,30 +142,27 @@ fn parse_access(
     requires { ⌜ Classes (now classes) ⌝ }
     ensures { λ r. ⌜ Leads (access (form .kind) (form .atomic) (form .n) (accessOperands (form .store)) dest) 3 [] (made same (now (text .entry)) p) (now (text .entry)) p p (now (words .entry)) r (now (words .exit)) ⌝ }
 {
-    let p1 = writer::push(words, p, 0);
-    let p2 = writer::push(words, p1, dest);
-    let p3 = lexer::eat_ws(classes, text, p2);
-    if is_atomic(classes, text, p3) {
-        let p4 = lexer::pass_word(text, p3, b"atomic");
-        let p5 = skip_volatile(classes, text, p4);
-        let p6 = access_operands(classes, text, words, p5, form.store);
-        let p7 = skip_atomic_ordering(classes, text, p6);
-        let t = operands::parse_trailing(classes, text, p7);
-        let p8 = t.p;
-        return writer::close(words, p, p8, form.atomic, 0, form.n);
+    let q = writer::begin(words, p, dest);
+    let q1 = lexer::eat_ws(classes, text, q);
+    if is_atomic(classes, text, q1) {
+        let q2 = lexer::pass_word(text, q1, b"atomic");
+        let q3 = skip_volatile(classes, text, q2);
+        let q4 = access_operands(classes, text, words, q3, form.store);
+        let q5 = skip_atomic_ordering(classes, text, q4);
+        return operands::end(classes, text, words, p, q5, form.atomic, 0, form.n);
     }
-    let p4 = skip_volatile(classes, text, p3);
-    let p5 = writer::push(words, p4, 0);
-    let p6 = access_operands(classes, text, words, p5, form.store);
-    let t = operands::parse_trailing(classes, text, p6);
-    let p7 = t.p;
+    let p1 = skip_volatile(classes, text, q1);
+    let q6 = writer::push(words, p1, 0);
+    let q7 = access_operands(classes, text, words, q6, form.store);
+    let t = operands::parse_trailing(classes, text, q7);
+    let q8 = t.p;
     if t.has == 0 {
-        let q = access_operands(classes, text, words, p4, form.store);
-        let q1 = operands::resume(q, p7);
-        return writer::close(words, p, q1, form.kind, 0, form.n);
+        let z = access_operands(classes, text, words, p1, form.store);
+        let q9 = operands::resume(z, q8);
+        return writer::close(words, p, q9, form.kind, 0, form.n);
     }
-    let p8 = writer::patch(words, p, p7, 2, t.v);
-    writer::close(words, p, p8, form.kind, records::D_ALIGN, form.n)
+    let q10 = writer::patch(words, p, q8, 2, t.v);
+    writer::close(words, p, q10, form.kind, records::D_ALIGN, form.n)
 }
 
 // `load T, T V`
@@ -212,25 +210,22 @@ pub fn parse_cmpxchg(
     requires { ⌜ Classes (now classes) ⌝ }
     ensures { λ r. ⌜ Leads (parseCmpxchg dest) 3 [] (richly (now (text .entry)) (made same (now (text .entry)) p)) (now (text .entry)) p p (now (words .entry)) r (now (words .exit)) ⌝ }
 {
-    let p1 = writer::push(words, p, 0);
-    let p2 = writer::push(words, p1, dest);
-    let p3 = skip_weak(classes, text, p2);
-    let p4 = skip_volatile(classes, text, p3);
-    let q = operands::pass_operand(classes, text, p4);
-    let p5 = writer::join(p4, q);
-    let p6 = lexer::expect_token(classes, text, p5, b',');
-    let p7 = types::parse_type(classes, text, words, p6, records::DEPTH_LIMIT);
-    let z = operands::resume(p7, p4);
-    let z1 = operands::parse_operand(classes, text, words, z);
-    let p8 = operands::resume(z1, p7);
-    let p9 = values::parse_value(classes, text, words, p8, records::DEPTH_LIMIT);
-    let p10 = lexer::expect_token(classes, text, p9, b',');
-    let p11 = operands::parse_operand(classes, text, words, p10);
-    let p12 = skip_atomic_ordering(classes, text, p11);
-    let p13 = skip_atomic_ordering(classes, text, p12);
-    let t = operands::parse_trailing(classes, text, p13);
-    let p14 = t.p;
-    writer::close(words, p, p14, records::K_CMPXCHG, 0, 4)
+    let mut q = writer::begin(words, p, dest);
+    q = skip_weak(classes, text, q);
+    let p1 = skip_volatile(classes, text, q);
+    q = operands::pass_operand(classes, text, p1);
+    q = writer::join(p1, q);
+    q = lexer::expect_token(classes, text, q, b',');
+    q = types::parse_type(classes, text, words, q, records::DEPTH_LIMIT);
+    let mut z = operands::resume(q, p1);
+    z = operands::parse_operand(classes, text, words, z);
+    q = operands::resume(z, q);
+    q = values::parse_value(classes, text, words, q, records::DEPTH_LIMIT);
+    q = lexer::expect_token(classes, text, q, b',');
+    q = operands::parse_operand(classes, text, words, q);
+    q = skip_atomic_ordering(classes, text, q);
+    q = skip_atomic_ordering(classes, text, q);
+    operands::end(classes, text, words, p, q, records::K_CMPXCHG, 0, 4)
 }
 
 // `extractvalue T V, N`: the number's slot is filled behind the operand.
@@ -244,18 +239,15 @@ pub fn parse_extractvalue(
     requires { ⌜ Classes (now classes) ⌝ }
     ensures { λ r. ⌜ Leads (parseExtractvalue dest) 3 [] (made same (now (text .entry)) p) (now (text .entry)) p p (now (words .entry)) r (now (words .exit)) ⌝ }
 {
-    let p1 = writer::push(words, p, 0);
-    let p2 = writer::push(words, p1, dest);
-    let p3 = writer::push(words, p2, 0);
-    let p4 = operands::parse_operand(classes, text, words, p3);
-    let p5 = lexer::expect_token(classes, text, p4, b',');
-    let p6 = lexer::eat_ws(classes, text, p5);
-    let n = lexer::parse_int(classes, text, p6, 0, records::INDEX_LIMIT);
-    let p7 = n.p;
-    let t = operands::parse_trailing(classes, text, p7);
-    let p8 = t.p;
-    let p9 = writer::patch(words, p, p8, 2, n.v);
-    writer::close(words, p, p9, records::K_EXTRACT_VALUE, 0, 1)
+    let mut q = writer::begin(words, p, dest);
+    q = writer::push(words, q, 0);
+    q = operands::parse_operand(classes, text, words, q);
+    q = lexer::expect_token(classes, text, q, b',');
+    q = lexer::eat_ws(classes, text, q);
+    let n = lexer::parse_int(classes, text, q, 0, records::INDEX_LIMIT);
+    q = n.p;
+    q = writer::patch(words, p, q, 2, n.v);
+    operands::end(classes, text, words, p, q, records::K_EXTRACT_VALUE, 0, 1)
 }
 
 // `fence ..`
@@ -263,12 +255,9 @@ pub fn parse_fence(classes: &[u8; 256], text: &[u8], words: &mut [u64], p: Parse
     requires { ⌜ Classes (now classes) ⌝ }
     ensures { λ r. ⌜ Leads parseFence 2 [] (made same (now (text .entry)) p) (now (text .entry)) p p (now (words .entry)) r (now (words .exit)) ⌝ }
 {
-    let p1 = writer::push(words, p, 0);
-    let p2 = writer::push(words, p1, 0);
-    let p3 = skip_atomic_ordering(classes, text, p2);
-    let t = operands::parse_trailing(classes, text, p3);
-    let p4 = t.p;
-    writer::close(words, p, p4, records::K_FENCE, 0, 0)
+    let mut q = writer::begin(words, p, 0);
+    q = skip_atomic_ordering(classes, text, q);
+    operands::end(classes, text, words, p, q, records::K_FENCE, 0, 0)
 }
 
 // What stands behind an alloca's type: `n` is 0 where there is no count, `has` is 0 where there is no alignment.
@@ -282,7 +271,7 @@ struct Rest {
 // The last count, written, and the last alignment.
 fn alloca_rest(classes: &[u8; 256], text: &[u8], words: &mut [u64], p: Parsed) -> Rest
     requires { ⌜ Classes (now classes) ⌝ }
-    ensures { λ r. ⌜ Leads (allocaRest 16777217 none []) 0 [] (made (λ ws. allocaParts (counted (r .n) ws) (alignOf (r .has) (r .v))) (now (text .entry)) p) (now (text .entry)) p p (now (words .entry)) (r .p) (now (words .exit)) ⌝ }
+    ensures { λ r. ⌜ Leads (counting 16777217 none []) 0 [] (made (λ ws. clauses (counted (r .n) ws) (alignOf (r .has) (r .v))) (now (text .entry)) p) (now (text .entry)) p p (now (words .entry)) (r .p) (now (words .exit)) ⌝ }
 {
     let mut q = p;
     let mut n: u8 = 0;
@@ -290,32 +279,32 @@ fn alloca_rest(classes: &[u8; 256], text: &[u8], words: &mut [u64], p: Parsed) -
     let mut v: u64 = 0;
     let mut left: usize = records::TURNS;
     while 0 < left {
-        let q1 = lexer::eat_ws(classes, text, q);
-        if lexer::looks(text, q1, b',') {
-            let q2 = lexer::pass(text, q1, 1);
-            let q3 = lexer::eat_ws(classes, text, q2);
-            if lexer::word(classes, text, q3, b"align") {
-                let q4 = lexer::pass_word(text, q3, b"align");
-                let q5 = lexer::eat_ws(classes, text, q4);
-                let k = lexer::parse_int(classes, text, q5, 0, records::NUMBER_LIMIT);
+        q = lexer::eat_ws(classes, text, q);
+        if lexer::looks(text, q, b',') {
+            q = lexer::pass(text, q, 1);
+            q = lexer::eat_ws(classes, text, q);
+            if lexer::word(classes, text, q, b"align") {
+                q = lexer::pass_word(text, q, b"align");
+                q = lexer::eat_ws(classes, text, q);
+                let k = lexer::parse_int(classes, text, q, 0, records::NUMBER_LIMIT);
                 q = k.p;
                 has = 1;
                 v = k.v;
                 left -= 1;
             } else {
-                if lexer::looks(text, q3, b'!') {
-                    let q4 = lexer::pass(text, q3, 1);
-                    q = names::skip_metadata_ref(classes, text, q4);
+                if lexer::looks(text, q, b'!') {
+                    q = lexer::pass(text, q, 1);
+                    q = names::skip_metadata_ref(classes, text, q);
                     left -= 1;
                 } else {
-                    let q4 = operands::resume(p, q3);
-                    q = values::parse_typed_val(classes, text, words, q4, records::DEPTH_LIMIT);
+                    q = operands::resume(p, q);
+                    q = values::parse_typed_val(classes, text, words, q, records::DEPTH_LIMIT);
                     n = 1;
                     left -= 1;
                 }
             }
         } else {
-            return Rest { p: q1, n, has, v };
+            return Rest { p: q, n, has, v };
         }
     }
     Rest { p: q, n, has, v }
@@ -324,7 +313,7 @@ fn alloca_rest(classes: &[u8; 256], text: &[u8], words: &mut [u64], p: Parsed) -
 // The same, not written.
 fn pass_rest(classes: &[u8; 256], text: &[u8], p: Parsed) -> Rest
     requires { ⌜ Classes (now classes) ⌝ }
-    ensures { λ r. ⌜ Dry (allocaRest 16777217 none []) (made (λ ws. allocaParts (counted (r .n) ws) (alignOf (r .has) (r .v))) (now (text .entry)) p) (now (text .entry)) p (r .p) ⌝ }
+    ensures { λ r. ⌜ Dry (counting 16777217 none []) (made (λ ws. clauses (counted (r .n) ws) (alignOf (r .has) (r .v))) (now (text .entry)) p) (now (text .entry)) p (r .p) ⌝ }
 {
     let mut none: [u64; 0] = [];
     alloca_rest(classes, text, &mut none, p)
@@ -342,22 +331,25 @@ fn push_align(words: &mut [u64], p: Parsed, has: u8, v: u64) -> Parsed
 
 // Detail bit 1 says that an alignment is there.
 fn align_bit(has: u8) -> u8
-    ensures { λ r. ⌜ ((v : ℕ) → r ≡ length (alignOf has v) * 2) ⌝ }
+    ensures { λ r. ⌜ ((v : ℕ) → r ≡ length (alignOf has v) * dAllocaAlign) ⌝ }
 {
     if has == 0 {
         return 0;
     }
-    2
+    records::D_ALLOCA_ALIGN
 }
+
+// An alloca's detail with a count and an alignment.
+const D_BOTH: u8 = records::D_COUNT + records::D_ALLOCA_ALIGN;
 
 // Detail bit 0 says that a count is there.
 fn one_bit(d: u8) -> u8
-    ensures { λ r. ⌜ (d ≡ 0 → r ≡ 1) × (d ≡ 2 → r ≡ 3) ⌝ }
+    ensures { λ r. ⌜ (d ≡ 0 → r ≡ dCount) × (d ≡ dAllocaAlign → r ≡ dCount + dAllocaAlign) ⌝ }
 {
     if d == 0 {
-        return 1;
+        return records::D_COUNT;
     }
-    3
+    D_BOTH
 }
 
 // `alloca T, T V, align N`
@@ -371,31 +363,30 @@ pub fn parse_alloca(
     requires { ⌜ Classes (now classes) ⌝ }
     ensures { λ r. ⌜ Leads (parseAlloca dest) 3 [] (richly (now (text .entry)) (made same (now (text .entry)) p)) (now (text .entry)) p p (now (words .entry)) r (now (words .exit)) ⌝ }
 {
-    let p1 = writer::push(words, p, 0);
-    let p2 = writer::push(words, p1, dest);
-    let p3 = skip_inalloca(classes, text, p2);
-    let q = operands::pass_type(classes, text, p3);
-    let p4 = writer::join(p3, q);
-    if lexer::looks(text, p4, b'(') {
-        return lexer::refuse(p4, records::Q_STATEMENT);
+    let q = writer::begin(words, p, dest);
+    let p1 = skip_inalloca(classes, text, q);
+    let q1 = operands::pass_type(classes, text, p1);
+    let p2 = writer::join(p1, q1);
+    if lexer::looks(text, p2, b'(') {
+        return lexer::refuse(p2, records::Q_STATEMENT);
     }
-    let s = pass_rest(classes, text, p4);
-    let q1 = s.p;
-    let p5 = writer::join(p4, q1);
-    let p6 = push_align(words, p5, s.has, s.v);
-    let z = operands::resume(p6, p3);
+    let s = pass_rest(classes, text, p2);
+    let q2 = s.p;
+    let q3 = writer::join(p2, q2);
+    let q4 = push_align(words, q3, s.has, s.v);
+    let z = operands::resume(q4, p1);
     let z1 = types::parse_type(classes, text, words, z, records::DEPTH_LIMIT);
-    let p7 = operands::resume(z1, p6);
+    let q5 = operands::resume(z1, q4);
     let d = align_bit(s.has);
     if s.n == 0 {
-        return writer::close(words, p, p7, records::K_ALLOCA, d, 1);
+        return writer::close(words, p, q5, records::K_ALLOCA, d, 1);
     }
-    let z2 = operands::resume(p7, p4);
+    let z2 = operands::resume(q5, p2);
     let s2 = alloca_rest(classes, text, words, z2);
     let z3 = s2.p;
-    let p8 = operands::resume(z3, p7);
+    let q6 = operands::resume(z3, q5);
     let d1 = one_bit(d);
-    writer::close(words, p, p8, records::K_ALLOCA, d1, 3)
+    writer::close(words, p, q6, records::K_ALLOCA, d1, 3)
 }
 
 // The indices of a getelementptr and its metadata, from before the comma; base type and pointer are children before them.
@@ -407,22 +398,22 @@ fn gep_inst_indices(classes: &[u8; 256], text: &[u8], words: &mut [u64], p: Pars
     let mut n: u16 = 2;
     let mut left: usize = records::TURNS;
     while 0 < left {
-        let q1 = lexer::eat_ws(classes, text, q);
-        if lexer::looks(text, q1, b',') {
-            let q2 = lexer::pass(text, q1, 1);
-            let q3 = lexer::eat_ws(classes, text, q2);
-            if lexer::looks(text, q3, b'!') {
-                let q4 = lexer::pass(text, q3, 1);
-                q = names::skip_metadata_ref(classes, text, q4);
+        q = lexer::eat_ws(classes, text, q);
+        if lexer::looks(text, q, b',') {
+            q = lexer::pass(text, q, 1);
+            q = lexer::eat_ws(classes, text, q);
+            if lexer::looks(text, q, b'!') {
+                q = lexer::pass(text, q, 1);
+                q = names::skip_metadata_ref(classes, text, q);
                 left -= 1;
             } else {
-                let x = values::pair_child(classes, text, words, q3, n, records::DEPTH_LIMIT);
+                let x = values::pair_child(classes, text, words, q, n, records::DEPTH_LIMIT);
                 q = x.p;
                 n = x.n;
                 left -= 1;
             }
         } else {
-            return Listed { p: q1, n, dots: 0 };
+            return Listed { p: q, n, dots: 0 };
         }
     }
     Listed { p: q, n, dots: 0 }
@@ -439,14 +430,13 @@ pub fn parse_gep_inst(
     requires { ⌜ Classes (now classes) ⌝ }
     ensures { λ r. ⌜ Leads (parseGepInst dest) 2 [] (made same (now (text .entry)) p) (now (text .entry)) p p (now (words .entry)) r (now (words .exit)) ⌝ }
 {
-    let p1 = writer::push(words, p, 0);
-    let p2 = writer::push(words, p1, dest);
-    let f = values::parse_gep_flags(classes, text, p2);
-    let p3 = f.p;
-    let p4 = types::parse_type(classes, text, words, p3, records::DEPTH_LIMIT);
-    let p5 = lexer::expect_token(classes, text, p4, b',');
-    let p6 = operands::parse_operand(classes, text, words, p5);
-    let l = gep_inst_indices(classes, text, words, p6);
-    let p7 = l.p;
-    writer::close(words, p, p7, records::K_GEP, f.v, l.n)
+    let q = writer::begin(words, p, dest);
+    let f = values::parse_gep_flags(classes, text, q);
+    let q1 = f.p;
+    let q2 = types::parse_type(classes, text, words, q1, records::DEPTH_LIMIT);
+    let q3 = lexer::expect_token(classes, text, q2, b',');
+    let q4 = operands::parse_operand(classes, text, words, q3);
+    let l = gep_inst_indices(classes, text, words, q4);
+    let q5 = l.p;
+    writer::close(words, p, q5, records::K_GEP, f.v, l.n)
 }

@@ -1,3 +1,2 @@
 pub mod Strings
-mod Letters
 pub mod Passed

@@ -1,7 +1,6 @@
 // Names (parser.rs `read_word`, `parse_local_name`, `parse_global_name`): a run of name characters, or quoted, with escapes.
 pub mod quotes; // quotes.rt: where what stands between quotes stops
 pub mod skips; // skips.rt: what is passed over, and byte strings
-pub mod spelling; // spelling.rt: names with quotes and escapes undone
 
 use crate::quotes::string_end;
 use lexer::Cursor;
@@ -22,9 +21,6 @@ pub use skips::cstring;
 pub use skips::skip_metadata_ref;
 pub use skips::skip_parens;
 pub use skips::three_dots;
-pub use spelling::same_name;
-pub use spelling::spelled_rank;
-pub use spelling::spells;
 ghost use mathlib.Core.Path.{_≡_};
 ghost use Prim.Native.Nat.{_+_, _-_, _<_};
 ghost use lib.ListN.{length, drop};
@@ -154,7 +150,7 @@ pub fn pack_word(at: usize, n: usize) -> u64
 {
     if at < records::HALF_LIMIT {
         if n < records::HALF_LIMIT {
-            return (at as u64) * 4294967296 + (n as u64);
+            return (at as u64) * records::HALF + (n as u64);
         }
         return 0;
     }

@@ -85,10 +85,10 @@ pub fn skip_metadata_ref(classes: &[u8; 256], text: &[u8], p: Parsed) -> Parsed
     ensures { λ r. ⌜ Gives skipMetadataRef tt (now (text .entry)) p r ⌝ }
 {
     let x = read_word(classes, text, p);
-    let q1 = x.p;
-    let q = lexer::eat_ws(classes, text, q1);
-    if lexer::looks(text, q, b'!') {
-        let q2 = lexer::pass(text, q, 1);
+    let q = x.p;
+    let q1 = lexer::eat_ws(classes, text, q);
+    if lexer::looks(text, q1, b'!') {
+        let q2 = lexer::pass(text, q1, 1);
         if lexer::looks(text, q2, b'{') {
             let q3 = lexer::pass(text, q2, 1);
             return balanced(text, q3, b'{', b'}');
@@ -96,7 +96,7 @@ pub fn skip_metadata_ref(classes: &[u8; 256], text: &[u8], p: Parsed) -> Parsed
         let y = read_word(classes, text, q2);
         return y.p;
     }
-    q
+    q1
 }
 
 // `...`, or the refusal e at its first byte.
@@ -105,15 +105,15 @@ pub fn three_dots(text: &[u8], p: Parsed, e: u64) -> Parsed
 {
     let at = lexer::place(p);
     if lexer::looks(text, p, b'.') {
-        let p1 = lexer::pass(text, p, 1);
-        if lexer::looks(text, p1, b'.') {
-            let p2 = lexer::pass(text, p1, 1);
-            if lexer::looks(text, p2, b'.') {
-                return lexer::pass(text, p2, 1);
+        let q = lexer::pass(text, p, 1);
+        if lexer::looks(text, q, b'.') {
+            let q1 = lexer::pass(text, q, 1);
+            if lexer::looks(text, q1, b'.') {
+                return lexer::pass(text, q1, 1);
             }
-            return lexer::refuse_at(p2, e, at);
+            return lexer::refuse_at(q1, e, at);
         }
-        return lexer::refuse_at(p1, e, at);
+        return lexer::refuse_at(q, e, at);
     }
     lexer::refuse_at(p, e, at)
 }

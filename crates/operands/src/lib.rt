@@ -4,11 +4,11 @@ use lexer::Cursor;
 use lexer::Num;
 use lexer::Parsed;
 ghost use mathlib.Core.Path.{_≡_};
-ghost use mathlib.Core.List.{List, []};
+ghost use mathlib.Core.List.{List, [], _∷_};
 ghost use Prim.Native.Nat.{ℕ};
 ghost use Rattle.program.specs.Prog.{ret};
 ghost use Rattle.records.specs.Limits.{depthLimit};
-ghost use Rattle.grammar.specs.Instructions.{labelNode, parseTrailing, target, parseOperand};
+ghost use Rattle.grammar.specs.Instructions.{labelNode, parseTrailing, ending, target, parseOperand};
 ghost use Rattle.lexer.specs.Table.{Classes};
 ghost use Rattle.lexer.specs.Reads.{Leads, Gives, made, same, Reads};
 ghost use Rattle.operands.specs.Trailing.{alignOf, TrailStep};
@@ -56,18 +56,18 @@ fn trail_step(classes: &[u8; 256], text: &[u8], p: Parsed, has: u8, v: u64) -> T
             };
         }
         if lexer::looks(text, q2, b'!') {
-            let q3 = lexer::pass(text, q2, 1);
-            let q4 = names::skip_metadata_ref(classes, text, q3);
+            let q6 = lexer::pass(text, q2, 1);
+            let q7 = names::skip_metadata_ref(classes, text, q6);
             return Turn {
-                p: q4,
+                p: q7,
                 has,
                 v,
                 more: true,
             };
         }
-        let q3 = lexer::refuse(q2, records::Q_TRAILING);
+        let q8 = lexer::refuse(q2, records::Q_TRAILING);
         return Turn {
-            p: q3,
+            p: q8,
             has,
             v,
             more: false,
@@ -102,6 +102,25 @@ pub fn parse_trailing(classes: &[u8; 256], text: &[u8], p: Parsed) -> Trail
         }
     }
     Trail { p: q, has, v }
+}
+
+// The end of an instruction that was begun at p0: what trails is passed, the header written.
+pub fn end(
+    classes: &[u8; 256],
+    text: &[u8],
+    words: &mut [u64],
+    p0: Parsed,
+    p: Parsed,
+    kind: u8,
+    d: u8,
+    n: u16,
+) -> Parsed
+    requires { ⌜ Classes (now classes) ⌝ }
+    ensures { λ r. ⌜ ((body : List ℕ) → Leads (ending kind d n body) 0 (0 ∷ body) (made same (now (text .entry)) p0) (now (text .entry)) p0 p (now (words .entry)) r (now (words .exit))) ⌝ }
+{
+    let t = parse_trailing(classes, text, p);
+    let q = t.p;
+    writer::close(words, p0, q, kind, d, n)
 }
 
 // A typed value whose type is dropped: its words are written over.

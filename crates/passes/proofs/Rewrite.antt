@@ -12,9 +12,9 @@ use lib.Seq.{drop-drop}
 use Rattle.records.specs.Words.{pack}
 use Rattle.records.specs.Limits.{halfLimit}
 use Rattle.grammar.specs.Function.{headAt, blockAt}
-use Rattle.directory.specs.Place.{readSize, readWords, readEntries, readsFrom, reads}
-use Rattle.directory.proofs.Place.{size-snoc, words-snoc, entries-snoc}
-use Rattle.directory.proofs.Final.{Put, put-first, put-next}
+use Rattle.keeping.specs.Place.{readSize, readWords, readEntries, readsFrom, reads}
+use Rattle.keeping.proofs.Place.{size-snoc, words-snoc, entries-snoc}
+use Rattle.keeping.proofs.Final.{Put, put-first, put-next}
 use Rattle.passes.specs.Parts.{Within, Stands}
 use Rattle.passes.specs.Numbered.{Takes, Closes, Stops}
 use Rattle.passes.specs.Second.{read, Fit, Wrote}

@@ -13,7 +13,7 @@ use borrow.Author.Tests.{ltb-true, ltb-false}
 use Rattle.records.specs.Pieces.{HeadRead, head, badHead, BlockRead, block, tail, badBlock, Run, done, stop, item, Source, fresh, kept, before, Old, old, oldSizes, Verdict, joins, again, behindFront}
 use Rattle.theorem_edits.specs.Law.{Grammar}
 use Rattle.directory.specs.Olds.{oldsOf}
-use Rattle.directory.specs.Place.{readThen, readsFrom, reads, restLeft, Settled}
+use Rattle.keeping.specs.Place.{readThen, readsFrom, reads, restLeft, Settled}
 use Rattle.passes.proofs.Again.{again-joined, again-block, again-tail, again-bad, behind-joined, behind-head, behind-bad, behind-some, behind-all}
 
 -- ---- runs that begin alike

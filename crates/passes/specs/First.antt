@@ -8,7 +8,7 @@ use Rattle.records.specs.Limits.{halfLimit, textLimit}
 use Rattle.records.specs.Pieces.{Run, mapRun, Source, size, oldSizes, oldWords, Verdict, refused, judge, commonEnd, again, behindFront, keeps, rest, judgeAgain}
 use Rattle.grammar.specs.Function.{headAt, blockAt}
 use Rattle.directory.specs.Olds.{oldsOf, Chained, Passed}
-use Rattle.directory.specs.Place.{readThen, readSize, readWords, Settled}
+use Rattle.keeping.specs.Place.{readThen, readSize, readWords, Settled}
 use Rattle.passes.specs.Numbered.{Takes}
 use Rattle.passes.specs.declared.first.Plan.{Plan}
 use Rattle.passes.specs.declared.first.Plan.the-variants as plans

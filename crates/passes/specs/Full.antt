@@ -7,7 +7,7 @@ use lib.ListN.{length, take, drop}
 use Rattle.records.specs.Limits.{halfLimit}
 use Rattle.records.specs.Pieces.{Run, done, mapRun, Verdict, fine, refused, judge, reading, blocks}
 use Rattle.grammar.specs.Function.{headAt, blockAt}
-use Rattle.directory.specs.Place.{fullThen, readSize, readWords, readEntries}
+use Rattle.keeping.specs.Place.{fullThen, readSize, readWords, readEntries}
 use Rattle.passes.specs.declared.full.Written.{Written}
 use Rattle.passes.specs.declared.full.Written.the-variants.{All, Refused}
 

@@ -6,10 +6,10 @@ use Prim.Native.Nat.{ℕ, _+_, _≤_}
 use lib.ListN.{length, take, drop}
 use Rattle.records.specs.Pieces.{Verdict, refused, head, badHead, block, tail, badBlock}
 use Rattle.grammar.specs.Function.{headAt, blockAt}
-use Rattle.directory.specs.Answers.{roomOf, afterRoom}
+use Rattle.keeping.specs.Answers.{roomOf, afterRoom}
 use Rattle.directory.specs.declared.pieces.Piece.{Piece}
 use Rattle.directory.specs.declared.pieces.Piece.the-variants.{Read, Tail, Refused}
-use Rattle.directory.specs.declared.rooms.Room.the-variants.{Fits}
+use Rattle.keeping.specs.declared.rooms.Room.the-variants.{Fits}
 use Rattle.texts.specs.declared.Verdict as code
 use Rattle.texts.specs.declared.Verdict.the-variants as verdicts
 

@@ -5,7 +5,7 @@ use mathlib.Core.List.{List, _++_}
 use Prim.Native.Nat.{ℕ, _+_, _-_, _*_, _≤_, _<_}
 use lib.ListN.{length, take, drop}
 use Rattle.grammar.specs.Function.{headAt, blockAt}
-use Rattle.directory.specs.Place.{readSize, readWords, readEntries, reads}
+use Rattle.keeping.specs.Place.{readSize, readWords, readEntries, reads}
 use Rattle.records.specs.Limits.{halfLimit}
 
 -- the pieces of a text from number k on up to number i, where piece k starts at pos

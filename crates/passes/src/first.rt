@@ -1,15 +1,15 @@
 // The first pass: which pieces are read, and which old ones are kept behind them. All questions are asked, and nothing is written.
 use crate::numbered::piece_dry;
 use crate::parts::ask;
-use directory::older::Edit;
-use directory::older::Found;
-use directory::older::Older;
-use directory::older::join_old;
 use directory::pieces::Piece;
 use directory::pieces::Size;
 use directory::pieces::Spot;
-use directory::rooms::Lent;
-use directory::rooms::room_kept;
+use keeping::older::Edit;
+use keeping::older::Found;
+use keeping::older::Older;
+use keeping::older::join_old;
+use keeping::rooms::Lent;
+use keeping::rooms::room_kept;
 use texts::Verdict;
 ghost use mathlib.Core.Path.{_≡_};
 ghost use Prim.Native.Nat.{_+_};

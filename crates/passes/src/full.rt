@@ -6,7 +6,7 @@ use directory::arrays::put_entry;
 use directory::pieces::Piece;
 use directory::pieces::Size;
 use directory::pieces::Spot;
-use directory::rooms::Lent;
+use keeping::rooms::Lent;
 use texts::Verdict;
 ghost use Prim.Native.Nat.{_≤_};
 ghost use lib.ListN.{length};

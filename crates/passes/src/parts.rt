@@ -3,9 +3,9 @@ use blocks::parse_block;
 use directory::pieces::Piece;
 use directory::pieces::Size;
 use directory::pieces::Spot;
-use directory::rooms::Lent;
-use directory::rooms::Room;
 use head::parse_head;
+use keeping::rooms::Lent;
+use keeping::rooms::Room;
 use texts::Verdict;
 ghost use Prim.Native.Nat.{_+_, _≤_};
 ghost use lib.ListN.{length, drop};
@@ -61,7 +61,7 @@ pub fn ask(lent: Lent, spot: Spot, size: Size) -> Verdict
     ensures { λ r. ⌜ Asked (lent .words) (lent .directory) (spot .number) (spot .word) (size .words) (spot .pos + size .bytes) r ⌝ }
 {
     let end = (spot.pos + size.bytes) as u64;
-    match directory::rooms::room_for(lent, spot, size.words) {
+    match keeping::rooms::room_for(lent, spot, size.words) {
         Room::Fits => Verdict::Fine,
         Room::Words => Verdict::Refused(records::Q_WORDS, end),
         Room::Entry => Verdict::Refused(records::Q_ENTRIES, end),

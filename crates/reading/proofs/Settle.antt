@@ -13,12 +13,12 @@ use Rattle.records.specs.Limits.{halfLimit}
 use Rattle.records.specs.Pieces.{Old, oldSizes, oldWords, common, commonEnd, fine, refused, textAsked, refusedAt, count, left, pad, olds, again-left, behindFront, rest}
 use Rattle.grammar.specs.Function.{headAt, blockAt, rereadingOf}
 use Rattle.directory.specs.Olds.{answers, oldsOf, moved, FrontIs, KeptBehind}
-use Rattle.directory.specs.Place.{readSize, readWords, readEntries, Settled}
+use Rattle.keeping.specs.Place.{readSize, readWords, readEntries, Settled}
 use Rattle.texts.proofs.Compare.{common-take}
 use Rattle.directory.proofs.Links.{olds-length, words-split, chained-is}
 use Rattle.directory.proofs.Moved.{moved-length}
-use Rattle.directory.proofs.Place.{entries-length}
-use Rattle.directory.proofs.Final.{Put, put-taken, settled-entries, settled-words, settled-left, reread-text, reread-unchained, reread-is, reread-refused}
+use Rattle.keeping.proofs.Place.{entries-length}
+use Rattle.keeping.proofs.Final.{Put, put-taken, settled-entries, settled-words, settled-left, reread-text, reread-unchained, reread-is, reread-refused}
 use Rattle.passes.proofs.Write.{settled-reads}
 use Rattle.passes.specs.First.{kept, keptSize, keptWords, behind, said, Given, Planned}
 use Rattle.passes.specs.Second.{read, Fit, Wrote}

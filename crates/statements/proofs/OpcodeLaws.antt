@@ -1,4 +1,5 @@
 -- Opcodes: a word's rank in the table of all of them says which way the definitions go.
+-- The words of the table differ, so the first test that holds is the one of the word's rank.
 -- Assumes nothing.
 use mathlib.Core.Path.{_≡_, refl, sym, ap, _∙_, subst}
 use mathlib.Core.List.{List, [], _∷_, _++_, append-assoc}

@@ -9,7 +9,14 @@ ghost use Rattle.lexer.specs.Reads.{Leads, made};
 ghost use Rattle.operands.specs.Rich.{richly};
 ghost use Rattle.statements.specs.Stated.{stated};
 
-// Where the reader is behind a statement, and which it was: 0 a label, whose word is `label`, 1 an instruction, 2 a terminator.
+// Which a statement is.
+pub const LABEL: u8 = 0;
+
+pub const INSTRUCTION: u8 = 1;
+
+pub const TERMINATOR: u8 = 2;
+
+// Where the reader is behind a statement, and which it was; a label's word.
 pub struct Stated {
     pub p: Parsed,
     pub kind: u8,
@@ -22,13 +29,13 @@ fn parse_inst(classes: &[u8; 256], text: &[u8], words: &mut [u64], p: Parsed) ->
     ensures { λ r. ⌜ Leads parseInst 3 [] (richly (now (text .entry)) (made instruction (now (text .entry)) p)) (now (text .entry)) p p (now (words .entry)) r (now (words .exit)) ⌝ }
 {
     let d = names::name_word(classes, text, p);
-    let p1 = d.p;
-    let p2 = lexer::expect_token(classes, text, p1, b'=');
-    let p3 = lexer::eat_ws(classes, text, p2);
-    let x = names::read_word(classes, text, p3);
-    let p4 = x.p;
+    let q = d.p;
+    let q1 = lexer::expect_token(classes, text, q, b'=');
+    let q2 = lexer::eat_ws(classes, text, q1);
+    let x = names::read_word(classes, text, q2);
+    let q3 = x.p;
     let r = opcodes::value_rank(classes, text, x.start, x.end);
-    opcodes::value_inst(classes, text, words, p4, r, d.v)
+    opcodes::value_inst(classes, text, words, q3, r, d.v)
 }
 
 // A label, an instruction without a destination, or a terminator. At a refusal it is none of the first two, so that a body ends there.
@@ -38,38 +45,38 @@ fn word_statement(classes: &[u8; 256], text: &[u8], words: &mut [u64], p: Parsed
 {
     let at = lexer::place(p);
     let x = names::read_word(classes, text, p);
-    let p1 = x.p;
+    let q = x.p;
     if x.empty {
-        let p2 = lexer::refuse(p1, records::Q_STATEMENT);
+        let q1 = lexer::refuse(q, records::Q_STATEMENT);
         return Stated {
-            p: p2,
-            kind: 2,
+            p: q1,
+            kind: TERMINATOR,
             label: 0,
         };
     }
-    if lexer::looks(text, p1, b':') {
-        let p2 = lexer::pass(text, p1, 1);
+    if lexer::looks(text, q, b':') {
+        let q2 = lexer::pass(text, q, 1);
         let n = lexer::minus(x.end, x.start);
         let label = names::pack_word(at, n);
         return Stated {
-            p: p2,
-            kind: 0,
+            p: q2,
+            kind: LABEL,
             label,
         };
     }
     let r = opcodes::statement_rank(classes, text, x.start, x.end);
     if r < 4 {
-        let p2 = opcodes::terminator(classes, text, words, p1, r);
+        let q3 = opcodes::terminator(classes, text, words, q, r);
         return Stated {
-            p: p2,
-            kind: 2,
+            p: q3,
+            kind: TERMINATOR,
             label: 0,
         };
     }
-    let p2 = opcodes::plain_inst(classes, text, words, p1, r);
+    let q4 = opcodes::plain_inst(classes, text, words, q, r);
     Stated {
-        p: p2,
-        kind: 1,
+        p: q4,
+        kind: INSTRUCTION,
         label: 0,
     }
 }
@@ -80,11 +87,11 @@ pub fn parse_statement(classes: &[u8; 256], text: &[u8], words: &mut [u64], p: P
     ensures { λ r. ⌜ Leads parseStatement 0 [] (richly (now (text .entry)) (stated (r .kind) (r .label) (now (text .entry)) p)) (now (text .entry)) p p (now (words .entry)) (r .p) (now (words .exit)) ⌝ }
 {
     if lexer::looks(text, p, b'%') {
-        let p1 = lexer::pass(text, p, 1);
-        let p2 = parse_inst(classes, text, words, p1);
+        let q = lexer::pass(text, p, 1);
+        let q1 = parse_inst(classes, text, words, q);
         return Stated {
-            p: p2,
-            kind: 1,
+            p: q1,
+            kind: INSTRUCTION,
             label: 0,
         };
     }

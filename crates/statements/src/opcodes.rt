@@ -74,7 +74,7 @@ pub fn value_opcode(classes: &[u8; 256], text: &[u8], from: usize, to: usize) ->
         8,
         6,
     ];
-    let r = names::spelled_rank(
+    let r = spelling::spelled_rank(
         classes,
         text,
         from,
@@ -91,7 +91,7 @@ pub fn statement_opcode(classes: &[u8; 256], text: &[u8], from: usize, to: usize
     ensures { λ r. ⌜ r ≡ rank (spelled (rawWord (part (now (text .entry)) from to))) statementWords ⌝ }
 {
     let lens: [u8; 10] = [3, 2, 6, 11, 5, 5, 4, 4, 8, 6];
-    let r = names::spelled_rank(
+    let r = spelling::spelled_rank(
         classes,
         text,
         from,
@@ -107,7 +107,7 @@ fn likely(classes: &[u8; 256], text: &[u8], from: usize, to: usize, kw: &[u8], k
     requires { ⌜ (k ≡ rank (now kw) valueOpcodes) × Classes (now classes) ⌝ }
     ensures { λ r. ⌜ r ≡ rank (spelled (rawWord (part (now (text .entry)) from to))) valueOpcodes ⌝ }
 {
-    if names::spells(classes, text, from, to, kw) {
+    if spelling::spells(classes, text, from, to, kw) {
         return k;
     }
     value_opcode(classes, text, from, to)
@@ -127,7 +127,7 @@ fn either(
     requires { ⌜ (k ≡ rank (now kw) valueOpcodes) × (k2 ≡ rank (now kw2) valueOpcodes) × Classes (now classes) ⌝ }
     ensures { λ r. ⌜ r ≡ rank (spelled (rawWord (part (now (text .entry)) from to))) valueOpcodes ⌝ }
 {
-    if names::spells(classes, text, from, to, kw) {
+    if spelling::spells(classes, text, from, to, kw) {
         return k;
     }
     likely(classes, text, from, to, kw2, k2)
@@ -170,7 +170,7 @@ fn likely_statement(
     requires { ⌜ (k ≡ rank (now kw) statementWords) × Classes (now classes) ⌝ }
     ensures { λ r. ⌜ r ≡ rank (spelled (rawWord (part (now (text .entry)) from to))) statementWords ⌝ }
 {
-    if names::spells(classes, text, from, to, kw) {
+    if spelling::spells(classes, text, from, to, kw) {
         return k;
     }
     statement_opcode(classes, text, from, to)

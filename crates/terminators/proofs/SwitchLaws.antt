@@ -12,9 +12,9 @@ use Rattle.program.specs.Choice.{pick}
 use Rattle.program.specs.Prog.{Prog, ret, Res, ok, no-at, run}
 use Rattle.records.specs.Words.{node, header}
 use Rattle.grammar.specs.Lexer.{eatWs, refuse, expectToken, expectKeyword}
-use Rattle.records.specs.Kinds.{kIntConst}
+use Rattle.records.specs.Kinds.{kind, IntConst}
 use Rattle.grammar.specs.Types.{room, child}
-use Rattle.grammar.specs.Instructions.{labelNode, parseOperand, target, caseWords, caseInt, Cases, cases, switchCases, switchNode}
+use Rattle.grammar.specs.Instructions.{labelNode, parseOperand, target, caseInt, Cases, cases, switchCases, switchNode}
 use Rattle.writer.specs.Writes.{joined, pushed, pushes, closes, restarted}
 use Rattle.lexer.specs.Step.{looksP, passed, refused, countedP}
 use Rattle.lexer.specs.Reads.{Budget, At, Ends, at, out, Leads, Goal, made, same, Inside, Gave, got, not, Gives}
@@ -31,6 +31,10 @@ use Rattle.operands.proofs.Twice.{Shows, kept-here}
 use Rattle.operands.proofs.OperandLaws.{ok-not}
 
 -- ---- a case's integer
+-- what is made of the value
+unfoldable caseWords : List ℕ → Prog (List ℕ)
+caseWords v = elim (eqb (getD v 0 0) (header (kind IntConst) 0 0 3)) [ true ↦ ret (getD v 1 0 ∷ getD v 2 0 ∷ []) | false ↦ refuse 12 ]
+
 -- what the value is, as its first words stand in the array, or that it is refused
 pub data Valued (text : List ℕ) (q : Parsed) (v : List ℕ) (cur : Cursor) : Res (List ℕ) → Type 0 where
   value-is : (ws : List ℕ) (ct : Cursor) → q ≡ Ok ct → cur .at ≤ ct .at → ct .at ≤ length text → ((i : ℕ) → i < 3 → takenP i q v ≡ getD ws i 0) → Valued text q v cur (ok ws (ct .at))
@@ -72,32 +76,32 @@ valued text p z q v Z R long cur e i = go refl (R .runs poor [] (3 * cur .at) (r
     go s (out {e = en} {q = xn}) = value-not en xn s
 
 module _ (text : List ℕ) (p z q q1 : Parsed) (v : List ℕ) (Z : z ≡ restarted p) (R : Leads parseOperand 0 [] (made same text z) text z z (0 ∷ 0 ∷ 0 ∷ []) q v) (long : length v ≡ 3) (J : q1 ≡ joined p q) (h hi lo : ℕ) (H : h ≡ takenP 0 q v) (HI : hi ≡ takenP 1 q v) (LO : lo ≡ takenP 2 q v) where
-  pub case-yes : h ≡ header kIntConst 0 0 3 → Gives caseInt (hi ∷ lo ∷ []) text p q1
+  pub case-yes : h ≡ header (kind IntConst) 0 0 3 → Gives caseInt (hi ∷ lo ∷ []) text p q1
   unfolding after caseInt caseWords run
   case-yes y = record {
-    runs = λ cur e i. subst (λ (r : Res (List ℕ)). Gave text (hi ∷ lo ∷ []) (cur .at) (cur .w) r q1) (sym (bind-at parseOperand (λ v. caseWords v) text (cur .at))) (go cur (J ∙ ap (λ (y : Parsed). joined y q) e) (valued text p z q v Z R long cur e i));
+    runs = λ cur e i. subst (λ (r : Res (List ℕ)). Gave text (hi ∷ lo ∷ []) (cur .at) (cur .w) r q1) (sym (bind-at parseOperand caseWords text (cur .at))) (go cur (J ∙ ap (λ (y : Parsed). joined y q) e) (valued text p z q v Z R long cur e i));
     hands = λ e x i. J ∙ ap (λ (y : Parsed). joined y q) i;
   }
     where
-      go : (cur : Cursor) → q1 ≡ joined (Ok cur) q → {r : Res (List ℕ)} → Valued text q v cur r → Gave text (hi ∷ lo ∷ []) (cur .at) (cur .w) (after (λ v. caseWords v) text r) q1
+      go : (cur : Cursor) → q1 ≡ joined (Ok cur) q → {r : Res (List ℕ)} → Valued text q v cur r → Gave text (hi ∷ lo ∷ []) (cur .at) (cur .w) (after caseWords text r) q1
       go cur j (value-is ws ct s l m t) =
-          let k : eqb (getD ws 0 0) (header kIntConst 0 0 3) ≡ true = eq-eqb _ _ (sym (t 0 (omega arith)) ∙ sym H ∙ y) in
+          let k : eqb (getD ws 0 0) (header (kind IntConst) 0 0 3) ≡ true = eq-eqb _ _ (sym (t 0 (omega arith)) ∙ sym H ∙ y) in
           let a : getD ws 1 0 ≡ hi = sym (t 1 (omega arith)) ∙ sym HI in
           let b : getD ws 2 0 ≡ lo = sym (t 2 (omega arith)) ∙ sym LO in
           let o : q1 ≡ Ok (record { at = ct .at; w = cur .w }) = j ∙ ap (joined (Ok cur)) s in
           rw (o, caseWords, k, a, b) (got {cur = record { at = ct .at; w = cur .w }} l m refl)
       go cur j (value-not e x s) = let o : q1 ≡ Refused e x = j ∙ ap (joined (Ok cur)) s in rw o not
 
-  pub case-no : {q2 : Parsed} → (h ≡ header kIntConst 0 0 3 → ⊥) → q2 ≡ refused 12 q1 → Gives caseInt (hi ∷ lo ∷ []) text p q2
+  pub case-no : {q2 : Parsed} → (h ≡ header (kind IntConst) 0 0 3 → ⊥) → q2 ≡ refused 12 q1 → Gives caseInt (hi ∷ lo ∷ []) text p q2
   unfolding after caseInt caseWords run refuse
   case-no {q2} y f = record {
-    runs = λ cur e i. subst (λ (r : Res (List ℕ)). Gave text (hi ∷ lo ∷ []) (cur .at) (cur .w) r q2) (sym (bind-at parseOperand (λ v. caseWords v) text (cur .at))) (go cur (J ∙ ap (λ (y : Parsed). joined y q) e) (valued text p z q v Z R long cur e i));
+    runs = λ cur e i. subst (λ (r : Res (List ℕ)). Gave text (hi ∷ lo ∷ []) (cur .at) (cur .w) r q2) (sym (bind-at parseOperand caseWords text (cur .at))) (go cur (J ∙ ap (λ (y : Parsed). joined y q) e) (valued text p z q v Z R long cur e i));
     hands = λ e x i. f ∙ ap (refused 12) (J ∙ ap (λ (y : Parsed). joined y q) i);
   }
     where
-      go : (cur : Cursor) → q1 ≡ joined (Ok cur) q → {r : Res (List ℕ)} → Valued text q v cur r → Gave text (hi ∷ lo ∷ []) (cur .at) (cur .w) (after (λ v. caseWords v) text r) q2
+      go : (cur : Cursor) → q1 ≡ joined (Ok cur) q → {r : Res (List ℕ)} → Valued text q v cur r → Gave text (hi ∷ lo ∷ []) (cur .at) (cur .w) (after caseWords text r) q2
       go cur j (value-is ws ct s l m t) =
-          let k : eqb (getD ws 0 0) (header kIntConst 0 0 3) ≡ false = ne-eqb _ _ (λ z. y (H ∙ t 0 (omega arith) ∙ z)) in
+          let k : eqb (getD ws 0 0) (header (kind IntConst) 0 0 3) ≡ false = ne-eqb _ _ (λ z. y (H ∙ t 0 (omega arith) ∙ z)) in
           let o : q2 ≡ Refused 12 (ct .at) = f ∙ ap (refused 12) (j ∙ ap (joined (Ok cur)) s) in
           rw (o, caseWords, k) not
       go cur j (value-not e x s) = let o : q2 ≡ Refused e x = f ∙ ap (refused 12) (j ∙ ap (joined (Ok cur)) s) in rw o not

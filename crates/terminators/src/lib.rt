@@ -2,6 +2,8 @@
 pub mod switch; // switch.rt: `parse_switch`
 
 use lexer::Parsed;
+use records::D_CONDITION;
+use records::D_VALUE;
 pub use switch::parse_switch;
 ghost use mathlib.Core.List.{[]};
 ghost use Rattle.grammar.specs.Instructions.{parseRet, parseUnreachable, parseBr};
@@ -13,18 +15,14 @@ pub fn parse_ret(classes: &[u8; 256], text: &[u8], words: &mut [u64], p: Parsed)
     requires { ⌜ Classes (now classes) ⌝ }
     ensures { λ r. ⌜ Leads parseRet 1 [] (made same (now (text .entry)) p) (now (text .entry)) p p (now (words .entry)) r (now (words .exit)) ⌝ }
 {
-    let p1 = writer::push(words, p, 0);
-    let p2 = lexer::eat_ws(classes, text, p1);
-    if lexer::word(classes, text, p2, b"void") {
-        let p3 = lexer::pass_word(text, p2, b"void");
-        let t = operands::parse_trailing(classes, text, p3);
-        let p4 = t.p;
-        return writer::close(words, p, p4, records::K_RET, 0, 0);
+    let q = writer::push(words, p, 0);
+    let q1 = lexer::eat_ws(classes, text, q);
+    if lexer::word(classes, text, q1, b"void") {
+        let q2 = lexer::pass_word(text, q1, b"void");
+        return operands::end(classes, text, words, p, q2, records::K_RET, 0, 0);
     }
-    let p3 = values::parse_typed_val(classes, text, words, p2, records::DEPTH_LIMIT);
-    let t = operands::parse_trailing(classes, text, p3);
-    let p4 = t.p;
-    writer::close(words, p, p4, records::K_RET, records::D_VALUE, 2)
+    let q3 = values::parse_typed_val(classes, text, words, q1, records::DEPTH_LIMIT);
+    operands::end(classes, text, words, p, q3, records::K_RET, D_VALUE, 2)
 }
 
 // `br label L` and `br T V, label L, label L`
@@ -32,27 +30,23 @@ pub fn parse_br(classes: &[u8; 256], text: &[u8], words: &mut [u64], p: Parsed) 
     requires { ⌜ Classes (now classes) ⌝ }
     ensures { λ r. ⌜ Leads parseBr 1 [] (made same (now (text .entry)) p) (now (text .entry)) p p (now (words .entry)) r (now (words .exit)) ⌝ }
 {
-    let p1 = writer::push(words, p, 0);
-    let p2 = lexer::eat_ws(classes, text, p1);
-    if lexer::word(classes, text, p2, b"label") {
-        let p3 = lexer::pass_word(text, p2, b"label");
-        let l = names::parse_local_name(classes, text, p3);
-        let p4 = l.p;
-        let p5 = operands::label_node(words, p4, l.v);
-        let t = operands::parse_trailing(classes, text, p5);
-        let p6 = t.p;
-        return writer::close(words, p, p6, records::K_BR, 0, 1);
+    let q = writer::push(words, p, 0);
+    let q1 = lexer::eat_ws(classes, text, q);
+    if lexer::word(classes, text, q1, b"label") {
+        let q2 = lexer::pass_word(text, q1, b"label");
+        let l = names::parse_local_name(classes, text, q2);
+        let q3 = l.p;
+        let q4 = operands::label_node(words, q3, l.v);
+        return operands::end(classes, text, words, p, q4, records::K_BR, 0, 1);
     }
-    let p3 = operands::parse_operand(classes, text, words, p2);
-    let a = operands::target(classes, text, p3);
-    let p4 = a.p;
-    let p5 = operands::label_node(words, p4, a.v);
-    let b = operands::target(classes, text, p5);
-    let p6 = b.p;
-    let p7 = operands::label_node(words, p6, b.v);
-    let t = operands::parse_trailing(classes, text, p7);
-    let p8 = t.p;
-    writer::close(words, p, p8, records::K_BR, records::D_CONDITION, 3)
+    let q5 = operands::parse_operand(classes, text, words, q1);
+    let a = operands::target(classes, text, q5);
+    let q6 = a.p;
+    let q7 = operands::label_node(words, q6, a.v);
+    let b = operands::target(classes, text, q7);
+    let q8 = b.p;
+    let q9 = operands::label_node(words, q8, b.v);
+    operands::end(classes, text, words, p, q9, records::K_BR, D_CONDITION, 3)
 }
 
 // `unreachable`
@@ -60,8 +54,6 @@ pub fn parse_unreachable(classes: &[u8; 256], text: &[u8], words: &mut [u64], p:
     requires { ⌜ Classes (now classes) ⌝ }
     ensures { λ r. ⌜ Leads parseUnreachable 1 [] (made same (now (text .entry)) p) (now (text .entry)) p p (now (words .entry)) r (now (words .exit)) ⌝ }
 {
-    let p1 = writer::push(words, p, 0);
-    let t = operands::parse_trailing(classes, text, p1);
-    let p2 = t.p;
-    writer::close(words, p, p2, records::K_UNREACHABLE, 0, 0)
+    let q = writer::push(words, p, 0);
+    operands::end(classes, text, words, p, q, records::K_UNREACHABLE, 0, 0)
 }

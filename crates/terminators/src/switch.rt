@@ -42,17 +42,17 @@ fn case_int(classes: &[u8; 256], text: &[u8], p: Parsed) -> Case
     ensures { λ r. ⌜ Gives caseInt (r .hi ∷ r .lo ∷ []) (now (text .entry)) p (r .p) ⌝ }
 {
     let mut value: [u64; 3] = [0, 0, 0];
-    let z = writer::restart(p);
-    let q = operands::parse_operand(classes, text, &mut value, z);
-    let h = taken(&value, q, 0);
-    let hi = taken(&value, q, 1);
-    let lo = taken(&value, q, 2);
-    let q1 = writer::join(p, q);
+    let q = writer::restart(p);
+    let q1 = operands::parse_operand(classes, text, &mut value, q);
+    let h = taken(&value, q1, 0);
+    let hi = taken(&value, q1, 1);
+    let lo = taken(&value, q1, 2);
+    let q2 = writer::join(p, q1);
     if h == records::INT_HEADER {
-        return Case { p: q1, lo, hi };
+        return Case { p: q2, lo, hi };
     }
-    let q2 = lexer::refuse(q1, records::Q_CASE);
-    Case { p: q2, lo, hi }
+    let q3 = lexer::refuse(q2, records::Q_CASE);
+    Case { p: q3, lo, hi }
 }
 
 // Was the reader refused? No byte ends the list of cases then, so this does.
@@ -80,26 +80,26 @@ fn switch_ints(classes: &[u8; 256], text: &[u8], words: &mut [u64], p: Parsed) -
     let mut left: usize = records::LIST_TURNS;
     let mut n: u16 = 3;
     while 0 < left {
-        let q1 = lexer::eat_ws(classes, text, q);
-        if lexer::looks(text, q1, b']') {
-            let q2 = lexer::pass(text, q1, 1);
-            return Cases { p: q2, n };
+        q = lexer::eat_ws(classes, text, q);
+        if lexer::looks(text, q, b']') {
+            q = lexer::pass(text, q, 1);
+            return Cases { p: q, n };
         }
-        let c = case_int(classes, text, q1);
-        let q2 = c.p;
-        let t = operands::target(classes, text, q2);
-        let q3 = t.p;
-        let q4 = lexer::count_child(q3, n);
-        if stopped(q4) {
-            return Cases { p: q4, n };
+        let c = case_int(classes, text, q);
+        q = c.p;
+        let t = operands::target(classes, text, q);
+        q = t.p;
+        q = lexer::count_child(q, n);
+        if stopped(q) {
+            return Cases { p: q, n };
         }
-        let q5 = writer::push(words, q4, c.hi);
-        q = writer::push(words, q5, c.lo);
+        q = writer::push(words, q, c.hi);
+        q = writer::push(words, q, c.lo);
         left -= 1;
         n = types::one_more(n);
     }
-    let q1 = lexer::refuse(q, records::Q_CHILDREN);
-    Cases { p: q1, n }
+    q = lexer::refuse(q, records::Q_CHILDREN);
+    Cases { p: q, n }
 }
 
 // The cases through the `]`, their labels written.
@@ -111,25 +111,25 @@ fn switch_labels(classes: &[u8; 256], text: &[u8], words: &mut [u64], p: Parsed)
     let mut left: usize = records::LIST_TURNS;
     let mut n: u16 = 3;
     while 0 < left {
-        let q1 = lexer::eat_ws(classes, text, q);
-        if lexer::looks(text, q1, b']') {
-            let q2 = lexer::pass(text, q1, 1);
-            return Cases { p: q2, n };
+        q = lexer::eat_ws(classes, text, q);
+        if lexer::looks(text, q, b']') {
+            q = lexer::pass(text, q, 1);
+            return Cases { p: q, n };
         }
-        let c = case_int(classes, text, q1);
-        let q2 = c.p;
-        let t = operands::target(classes, text, q2);
-        let q3 = t.p;
-        let q4 = lexer::count_child(q3, n);
-        if stopped(q4) {
-            return Cases { p: q4, n };
+        let c = case_int(classes, text, q);
+        q = c.p;
+        let t = operands::target(classes, text, q);
+        q = t.p;
+        q = lexer::count_child(q, n);
+        if stopped(q) {
+            return Cases { p: q, n };
         }
-        q = operands::label_node(words, q4, t.v);
+        q = operands::label_node(words, q, t.v);
         left -= 1;
         n = types::one_more(n);
     }
-    let q1 = lexer::refuse(q, records::Q_CHILDREN);
-    Cases { p: q1, n }
+    q = lexer::refuse(q, records::Q_CHILDREN);
+    Cases { p: q, n }
 }
 
 // `switch T V, label %d [ T V, label %a .. ]`
@@ -139,21 +139,21 @@ pub fn parse_switch(classes: &[u8; 256], text: &[u8], words: &mut [u64], p: Pars
 {
     let p1 = writer::push(words, p, 0);
     let q = operands::pass_typed_val(classes, text, p1);
-    let p2 = writer::join(p1, q);
-    let d = operands::target(classes, text, p2);
-    let p3 = d.p;
-    let p4 = lexer::expect_token(classes, text, p3, b'[');
-    let c = switch_ints(classes, text, words, p4);
-    let p5 = c.p;
-    let t = operands::parse_trailing(classes, text, p5);
-    let p6 = t.p;
-    let z = operands::resume(p6, p1);
+    let q1 = writer::join(p1, q);
+    let d = operands::target(classes, text, q1);
+    let q2 = d.p;
+    let p2 = lexer::expect_token(classes, text, q2, b'[');
+    let c = switch_ints(classes, text, words, p2);
+    let q3 = c.p;
+    let t = operands::parse_trailing(classes, text, q3);
+    let q4 = t.p;
+    let z = operands::resume(q4, p1);
     let z1 = values::parse_typed_val(classes, text, words, z, records::DEPTH_LIMIT);
-    let p7 = operands::resume(z1, p6);
-    let p8 = operands::label_node(words, p7, d.v);
-    let z2 = operands::resume(p8, p4);
+    let q5 = operands::resume(z1, q4);
+    let q6 = operands::label_node(words, q5, d.v);
+    let z2 = operands::resume(q6, p2);
     let l = switch_labels(classes, text, words, z2);
     let z3 = l.p;
-    let p9 = operands::resume(z3, p8);
-    writer::close(words, p, p9, records::K_SWITCH, 0, c.n)
+    let q7 = operands::resume(z3, q6);
+    writer::close(words, p, q7, records::K_SWITCH, 0, c.n)
 }

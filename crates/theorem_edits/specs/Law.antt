@@ -1,4 +1,6 @@
 -- Re-reading after an edit gives what a full reading gives, over any reader of one piece that has the properties of `Grammar`.
+-- By induction on the pieces: one that is kept in front looks at no byte behind its settled end, so it reads the same in the newer text; and where an
+-- old piece is joined, both texts are the same to their ends.
 use mathlib.Core.Path.{_≡_, refl, sym, ap, _∙_, subst}
 use mathlib.Core.Bool.{Bool, true, false}
 use mathlib.Core.Option.{Option, none, some}

@@ -1,4 +1,5 @@
 -- 01: "what the older words hold decides no answer".
+-- They reach `sourceWords` alone, and that is asked of an accepted run.
 -- Assumes nothing.
 use mathlib.Core.Path.{_≡_, refl, ap}
 use mathlib.Core.List.{List}

@@ -1,4 +1,5 @@
 -- Any two programs make a reader of pieces that demand 3 holds for.
+-- What a run looks at follows from the program alone (`program`: `Local`): what it took, and the word that stands behind.
 -- Assumes nothing.
 use mathlib.Core.Path.{_≡_, refl, ap, _∙_}
 use mathlib.Core.Bool.{true, not}

@@ -1,4 +1,6 @@
 -- Demand 3: on the records of an accepted full reading, re-reading and a full reading of the newer text leave the same.
+-- The directory that such a reading leaves names its pieces again, and the words kept are those that reading them anew gives; so both runs have the
+-- same pieces (`Law`), and what is asked and left of them is the same.
 use mathlib.Core.Path.{_≡_, refl, sym, ap, _∙_}
 use mathlib.Core.Bool.{Bool, true, false, _&&_}
 use mathlib.Core.Option.{some}

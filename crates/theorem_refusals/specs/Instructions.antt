@@ -7,13 +7,13 @@ use lib.Dec.{T, ltb, eqb}
 use lib.ListN.{length, getD}
 use Rattle.program.specs.Prog.{Prog}
 use Rattle.records.specs.Words.{header}
-use Rattle.records.specs.Kinds.{kIntConst}
+use Rattle.records.specs.Kinds.{kind, IntConst}
 use Rattle.records.specs.Limits.{turns, depthLimit, listTurns, listDepth}
 use Rattle.grammar.specs.Lexer.{sameWord, rank}
 use Rattle.grammar.specs.Attributes.{convFlags}
 use Rattle.grammar.specs.Types.{TypeOut, plain, opened}
 use Rattle.grammar.specs.Values.{parseTypedVal}
-use Rattle.grammar.specs.Instructions.{type, value, labelNode, parseOperand, parseTrailingIn, parseTrailing, orderings, skipAtomicOrdering, twoOperands, parseBin, parseFbin, parseFneg, noParen, parseConv, predicate, parseIcmp, parseFcmp, parseSelect, loadOperands, access, parseLoad, storeOperands, parseStore, parseCmpxchg, parseExtractvalue, parseFence, allocaRest, parseAlloca, gepInstIndices, parseGepInst, phiItems, parsePhi, parseFreeze, argItem, parseArgList, funcNode, callRest, callOf, parseCall, parseTailCall, parseRet, target, parseBr, caseWords, caseInt, switchCases, parseSwitch, parseUnreachable, among, isWordThen, valueInst, plainInst}
+use Rattle.grammar.specs.Instructions.{type, value, labelNode, parseOperand, clausesIn, parseTrailing, ending, orderings, skipAtomicOrdering, twoOperands, binary, unary, parseBin, parseFbin, parseFneg, noParen, parseConv, predicate, parseIcmp, parseFcmp, parseSelect, loadOperands, access, parseLoad, storeOperands, parseStore, parseCmpxchg, parseExtractvalue, parseFence, parseAlloca, gepInstIndices, parseGepInst, phiItems, parsePhi, parseFreeze, argItem, parseArgList, funcNode, callRest, callOf, parseCall, parseTailCall, parseRet, target, parseBr, caseInt, switchCases, parseSwitch, parseUnreachable, among, isWordThen, valueInst, plainInst}
 use Rattle.theorem_refusals.specs.Inside.{asked, Inside, Any, then, then-with, done, either}
 use Rattle.theorem_refusals.specs.Lexer.{in-refuse, in-eatWs, in-byteIf, in-byteAtIf, in-wordIf, in-rankIf, in-tokenIf, in-expectToken, in-expectKeyword, in-skipKeyword, in-skipOne, in-skipAll, in-parseLocalName, in-skipParens, in-skipMetadataRef}
 use Rattle.theorem_refusals.specs.Numbers.{in-parseInt}
@@ -34,19 +34,24 @@ in-parseOperand : {n : ℕ} → Inside n Any parseOperand
 unfolding parseOperand
 in-parseOperand = then (in-type 6 tt) λ _. in-value
 
-in-parseTrailingIn : {n : ℕ} (u : ℕ) (align : List ℕ) → Inside n Any (parseTrailingIn u align)
-unfolding parseTrailingIn
-in-parseTrailingIn zero align = done
-in-parseTrailingIn (suc u) align =
+in-clausesIn : {n : ℕ} {f : Prog (List ℕ)} → Inside n Any f → (u : ℕ) (count : Option (List ℕ)) (align : List ℕ) → Inside n Any (clausesIn u f count align)
+unfolding clausesIn
+in-clausesIn h zero count align = done
+in-clausesIn h (suc u) count align =
     in-tokenIf _
     (then in-eatWs λ _.
-    in-wordIf _ (then in-eatWs λ _. then (in-parseInt _ _) λ k. in-parseTrailingIn u (k ∷ []))
-    (in-byteIf _ (then in-skipMetadataRef λ _. in-parseTrailingIn u align) (in-refuse 11 tt)))
+    in-wordIf _ (then in-eatWs λ _. then (in-parseInt _ _) λ k. in-clausesIn h u count (k ∷ []))
+    (in-byteIf _ (then in-skipMetadataRef λ _. in-clausesIn h u count align)
+    (then h λ x. in-clausesIn h u (some x) align)))
     done
 
 in-parseTrailing : {n : ℕ} → Inside n Any parseTrailing
 unfolding parseTrailing
-in-parseTrailing = in-parseTrailingIn turns []
+in-parseTrailing = then (in-clausesIn (in-refuse 11 tt) turns none []) λ _. done
+
+in-ending : {n : ℕ} (k d m : ℕ) (body : List ℕ) → Inside n Any (ending k d m body)
+unfolding ending
+in-ending k d m body = then in-parseTrailing λ _. done
 
 in-skipAtomicOrdering : {n : ℕ} → Inside n Any skipAtomicOrdering
 unfolding skipAtomicOrdering
@@ -56,17 +61,25 @@ in-twoOperands : {n : ℕ} → Inside n Any twoOperands
 unfolding twoOperands
 in-twoOperands = then (in-type 6 tt) λ _. then in-value λ _. then (in-expectToken _) λ _. then in-value λ _. done
 
+in-binary : {n : ℕ} (k d dest : ℕ) → Inside n Any (binary k d dest)
+unfolding binary
+in-binary k d dest = then in-twoOperands λ _. in-ending _ _ _ _
+
 in-parseBin : {n : ℕ} (op dest : ℕ) → Inside n Any (parseBin op dest)
 unfolding parseBin
-in-parseBin op dest = then in-skipArithFlags λ _. then in-twoOperands λ _. then in-parseTrailing λ _. done
+in-parseBin op dest = then in-skipArithFlags λ _. in-binary _ _ _
 
 in-parseFbin : {n : ℕ} (op dest : ℕ) → Inside n Any (parseFbin op dest)
 unfolding parseFbin
-in-parseFbin op dest = then in-skipFastMathFlags λ _. then in-twoOperands λ _. then in-parseTrailing λ _. done
+in-parseFbin op dest = then in-skipFastMathFlags λ _. in-binary _ _ _
+
+in-unary : {n : ℕ} (k dest : ℕ) → Inside n Any (unary k dest)
+unfolding unary
+in-unary k dest = then in-typedVal λ _. in-ending _ _ _ _
 
 in-parseFneg : {n : ℕ} (dest : ℕ) → Inside n Any (parseFneg dest)
 unfolding parseFneg
-in-parseFneg dest = then in-skipFastMathFlags λ _. then in-typedVal λ _. then in-parseTrailing λ _. done
+in-parseFneg dest = then in-skipFastMathFlags λ _. in-unary _ _
 
 in-noParen : {A : Type 0} {P : A → Type 0} {n : ℕ} {f : Prog A} → Inside n P f → Inside n P (noParen f)
 unfolding noParen
@@ -76,7 +89,7 @@ in-parseConv : {n : ℕ} (op dest : ℕ) → Inside n Any (parseConv op dest)
 unfolding parseConv
 in-parseConv op dest =
     then (in-skipAll turns convFlags) λ _. then in-typedVal λ _. then (in-expectKeyword _) λ _. then (in-type 8 tt) λ _.
-    in-noParen (then in-parseTrailing λ _. done)
+    in-noParen (in-ending _ _ _ _)
 
 in-predicate : {n : ℕ} (table : List (List ℕ)) → Inside n Any (predicate table)
 unfolding predicate
@@ -84,17 +97,17 @@ in-predicate table = then in-eatWs λ _. in-rankIf table (λ r. done) (in-refuse
 
 in-parseIcmp : {n : ℕ} (dest : ℕ) → Inside n Any (parseIcmp dest)
 unfolding parseIcmp
-in-parseIcmp dest = then (in-skipKeyword _) λ _. then (in-predicate _) λ _. then in-twoOperands λ _. then in-parseTrailing λ _. done
+in-parseIcmp dest = then (in-skipKeyword _) λ _. then (in-predicate _) λ _. in-binary _ _ _
 
 in-parseFcmp : {n : ℕ} (dest : ℕ) → Inside n Any (parseFcmp dest)
 unfolding parseFcmp
-in-parseFcmp dest = then in-skipFastMathFlags λ _. then (in-predicate _) λ _. then in-twoOperands λ _. then in-parseTrailing λ _. done
+in-parseFcmp dest = then in-skipFastMathFlags λ _. then (in-predicate _) λ _. in-binary _ _ _
 
 in-parseSelect : {n : ℕ} (dest : ℕ) → Inside n Any (parseSelect dest)
 unfolding parseSelect
 in-parseSelect dest =
     then in-parseOperand λ _. then (in-expectToken _) λ _. then in-typedVal λ _. then (in-expectToken _) λ _. then in-parseOperand λ _.
-    then in-parseTrailing λ _. done
+    in-ending _ _ _ _
 
 in-loadOperands : {n : ℕ} → Inside n Any loadOperands
 unfolding loadOperands
@@ -109,7 +122,7 @@ unfolding access
 in-access kind atomic k h dest =
     then in-eatWs λ _.
     in-wordIf _
-    (then (in-skipKeyword _) λ _. then h λ _. then in-skipAtomicOrdering λ _. then in-parseTrailing λ _. done)
+    (then (in-skipKeyword _) λ _. then h λ _. then in-skipAtomicOrdering λ _. in-ending _ _ _ _)
     (then (in-skipKeyword _) λ _. then h λ _. then in-parseTrailing λ _. done)
 
 in-parseLoad : {n : ℕ} (dest : ℕ) → Inside n Any (parseLoad dest)
@@ -125,31 +138,20 @@ unfolding parseCmpxchg
 in-parseCmpxchg dest =
     then (in-skipKeyword _) λ _. then (in-skipKeyword _) λ _. then in-parseOperand λ _. then (in-expectToken _) λ _.
     then (in-type 6 tt) λ _. then in-value λ _. then (in-expectToken _) λ _. then in-parseOperand λ _.
-    then in-skipAtomicOrdering λ _. then in-skipAtomicOrdering λ _. then in-parseTrailing λ _. done
+    then in-skipAtomicOrdering λ _. then in-skipAtomicOrdering λ _. in-ending _ _ _ _
 
 in-parseExtractvalue : {n : ℕ} (dest : ℕ) → Inside n Any (parseExtractvalue dest)
 unfolding parseExtractvalue
 in-parseExtractvalue dest =
-    then in-parseOperand λ _. then (in-expectToken _) λ _. then in-eatWs λ _. then (in-parseInt _ _) λ _. then in-parseTrailing λ _. done
+    then in-parseOperand λ _. then (in-expectToken _) λ _. then in-eatWs λ _. then (in-parseInt _ _) λ _. in-ending _ _ _ _
 
 in-parseFence : {n : ℕ} → Inside n Any parseFence
 unfolding parseFence
-in-parseFence = then in-skipAtomicOrdering λ _. then in-parseTrailing λ _. done
-
-in-allocaRest : {n : ℕ} (u : ℕ) (count : Option (List ℕ)) (align : List ℕ) → Inside n Any (allocaRest u count align)
-unfolding allocaRest
-in-allocaRest zero count align = done
-in-allocaRest (suc u) count align =
-    in-tokenIf _
-    (then in-eatWs λ _.
-    in-wordIf _ (then in-eatWs λ _. then (in-parseInt _ _) λ k. in-allocaRest u count (k ∷ []))
-    (in-byteIf _ (then in-skipMetadataRef λ _. in-allocaRest u count align)
-    (then in-typedVal λ x. in-allocaRest u (some x) align)))
-    done
+in-parseFence = then in-skipAtomicOrdering λ _. in-ending _ _ _ _
 
 in-parseAlloca : {n : ℕ} (dest : ℕ) → Inside n Any (parseAlloca dest)
 unfolding parseAlloca
-in-parseAlloca dest = then (in-skipKeyword _) λ _. then (in-type 8 tt) λ _. in-noParen (then (in-allocaRest turns none []) λ _. done)
+in-parseAlloca dest = then (in-skipKeyword _) λ _. then (in-type 8 tt) λ _. in-noParen (then (in-clausesIn in-typedVal turns none []) λ _. done)
 
 in-gepInstIndices : {n : ℕ} (u k : ℕ) (acc : List ℕ) → Inside n Any (gepInstIndices u k acc)
 unfolding gepInstIndices
@@ -181,7 +183,7 @@ in-parsePhi dest = then (in-type 3 tt) λ _. then (in-phiItems listTurns 1 []) �
 
 in-parseFreeze : {n : ℕ} (dest : ℕ) → Inside n Any (parseFreeze dest)
 unfolding parseFreeze
-in-parseFreeze dest = then in-typedVal λ _. then in-parseTrailing λ _. done
+in-parseFreeze dest = in-unary _ _
 
 in-argItem : {n : ℕ} (k : ℕ) → Inside n Any (argItem k)
 unfolding argItem
@@ -194,7 +196,7 @@ in-parseArgList k = then in-eatWs λ _. in-byteIf _ done (in-dotsList in-argItem
 in-callRest : {n : ℕ} (dest d k : ℕ) (types : List ℕ) → Inside n Any (callRest dest d k types)
 unfolding callRest
 in-callRest dest d k types =
-    then in-value λ _. then (in-expectToken _) λ _. then (in-parseArgList k) λ _. then in-skipAttrs λ _. then in-parseTrailing λ _. done
+    then in-value λ _. then (in-expectToken _) λ _. then (in-parseArgList k) λ _. then in-skipAttrs λ _. in-ending _ _ _ _
 
 in-callOf : {n : ℕ} (dest : ℕ) (t : TypeOut) → Inside n Any (callOf dest t)
 unfolding callOf
@@ -214,7 +216,7 @@ pub in-parseRet : {n : ℕ} → Inside n Any parseRet
 unfolding parseRet
 in-parseRet =
     then in-eatWs λ _.
-    in-wordIf _ (then in-parseTrailing λ _. done) (then in-typedVal λ _. then in-parseTrailing λ _. done)
+    in-wordIf _ (in-ending _ _ _ _) (then in-typedVal λ _. in-ending _ _ _ _)
 
 in-target : {n : ℕ} → Inside n Any target
 unfolding target
@@ -224,16 +226,12 @@ pub in-parseBr : {n : ℕ} → Inside n Any parseBr
 unfolding parseBr
 in-parseBr =
     then in-eatWs λ _.
-    in-wordIf _ (then in-parseLocalName λ _. then in-parseTrailing λ _. done)
-    (then in-parseOperand λ _. then in-target λ _. then in-target λ _. then in-parseTrailing λ _. done)
-
-in-caseWords : {n : ℕ} (v : List ℕ) → Inside n Any (caseWords v)
-unfolding caseWords
-in-caseWords v = either (eqb (getD v 0 0) (header kIntConst 0 0 3)) done (in-refuse 12 tt)
+    in-wordIf _ (then in-parseLocalName λ _. in-ending _ _ _ _)
+    (then in-parseOperand λ _. then in-target λ _. then in-target λ _. in-ending _ _ _ _)
 
 in-caseInt : {n : ℕ} → Inside n Any caseInt
 unfolding caseInt
-in-caseInt = then in-parseOperand in-caseWords
+in-caseInt = then in-parseOperand λ v. either (eqb (getD v 0 0) (header (kind IntConst) 0 0 3)) done (in-refuse 12 tt)
 
 in-switchCases : {n : ℕ} (u k : ℕ) (ints labels : List ℕ) → Inside n Any (switchCases u k ints labels)
 unfolding switchCases
@@ -248,7 +246,7 @@ in-parseSwitch =
 
 pub in-parseUnreachable : {n : ℕ} → Inside n Any parseUnreachable
 unfolding parseUnreachable
-in-parseUnreachable = then in-parseTrailing λ _. done
+in-parseUnreachable = in-ending _ _ _ _
 
 in-among : {A : Type 0} {P : A → Type 0} {n : ℕ} {f : ℕ → Prog A} {g : Prog A} (w : List ℕ) (table : List (List ℕ)) → ((r : ℕ) → Inside n P (f r)) → Inside n P g → Inside n P (among w table f g)
 unfolding among

@@ -1,4 +1,5 @@
 pub mod Same
 pub mod Loops
+pub mod Lists
 pub mod Turned
 pub mod Turns

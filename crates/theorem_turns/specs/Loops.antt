@@ -10,8 +10,8 @@ use Rattle.grammar.specs.Lexer.{eatWs, sameWord, rank, skipAll, skipParens, ski
 use Rattle.grammar.specs.Numbers.{parseInt}
 use Rattle.grammar.specs.Attributes.{flagAttrs, parenAttrs, arithFlags, fastMathFlags, convFlags, skipAttrsIn}
 use Rattle.grammar.specs.Types.{TypeOut, ptrWords, optAddrspace, parseTypeList, suffixes}
-use Rattle.grammar.specs.Values.{pairChild, parseGepFlags, parseTypedVal}
-use Rattle.grammar.specs.Instructions.{parseTrailingIn, allocaRest, gepInstIndices}
+use Rattle.grammar.specs.Values.{pairChild, parseGepFlags}
+use Rattle.grammar.specs.Instructions.{clausesIn, gepInstIndices}
 use Rattle.grammar.specs.Body.{Statement, label, instruction, terminator, parseStatement, finishBlock, overAt, parseBody}
 use Rattle.theorem_turns.specs.Same.{Same, Full, alike, no-text, scans, ends, then, then-moved, by-byte, by-byte-at, by-word, byte-taken, token-taken, word-taken, rank-taken}
 use Rattle.theorem_edits.specs.Again.{statement-moves}
@@ -60,31 +60,18 @@ same-skipAttrsIn (suc n) (suc u) (suc v) a b =
     (word-taken _ _ (then eatWs λ _. then (parseInt _ _) λ _. again)
     (rank-taken flagAttrs full-flagAttrs (λ r. again) alike))))
 
-pub same-parseTrailingIn : (n u v : ℕ) (align : List ℕ) → n ≤ u → n ≤ v → Same n (parseTrailingIn u align) (parseTrailingIn v align)
-unfolding parseTrailingIn
-same-parseTrailingIn zero u v align a b = no-text
-same-parseTrailingIn (suc n) zero v align a b = absurd (omega arith)
-same-parseTrailingIn (suc n) (suc u) zero align a b = absurd (omega arith)
-same-parseTrailingIn (suc n) (suc u) (suc v) align a b =
-    let again : (align : List ℕ) → Same n (parseTrailingIn u align) (parseTrailingIn v align) = λ align. same-parseTrailingIn n u v align (omega arith) (omega arith) in
-    token-taken _
-    (then eatWs λ _.
-    by-word _ (then eatWs λ _. then (parseInt _ _) λ m. again (m ∷ []))
-    (by-byte _ (then skipMetadataRef λ _. again align) alike))
-    alike
-
-pub same-allocaRest : (n u v : ℕ) (count : Option (List ℕ)) (align : List ℕ) → n ≤ u → n ≤ v → Same n (allocaRest u count align) (allocaRest v count align)
-unfolding allocaRest
-same-allocaRest zero u v count align a b = no-text
-same-allocaRest (suc n) zero v count align a b = absurd (omega arith)
-same-allocaRest (suc n) (suc u) zero count align a b = absurd (omega arith)
-same-allocaRest (suc n) (suc u) (suc v) count align a b =
-    let again : (count : Option (List ℕ)) (align : List ℕ) → Same n (allocaRest u count align) (allocaRest v count align) = λ count align. same-allocaRest n u v count align (omega arith) (omega arith) in
+pub same-clausesIn : (n u v : ℕ) (more : Prog (List ℕ)) (count : Option (List ℕ)) (align : List ℕ) → n ≤ u → n ≤ v → Same n (clausesIn u more count align) (clausesIn v more count align)
+unfolding clausesIn
+same-clausesIn zero u v more count align a b = no-text
+same-clausesIn (suc n) zero v more count align a b = absurd (omega arith)
+same-clausesIn (suc n) (suc u) zero more count align a b = absurd (omega arith)
+same-clausesIn (suc n) (suc u) (suc v) more count align a b =
+    let again : (count : Option (List ℕ)) (align : List ℕ) → Same n (clausesIn u more count align) (clausesIn v more count align) = λ count align. same-clausesIn n u v more count align (omega arith) (omega arith) in
     token-taken _
     (then eatWs λ _.
     by-word _ (then eatWs λ _. then (parseInt _ _) λ m. again count (m ∷ []))
     (by-byte _ (then skipMetadataRef λ _. again count align)
-    (then (parseTypedVal _) λ x. again (some x) align)))
+    (then more λ x. again (some x) align)))
     alike
 
 pub same-gepInstIndices : (n u v k : ℕ) (acc : List ℕ) → n ≤ u → n ≤ v → Same n (gepInstIndices u k acc) (gepInstIndices v k acc)

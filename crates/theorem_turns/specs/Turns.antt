@@ -1,5 +1,5 @@
 -- The turns that the definitions begin their loops with do not run out on a text that question 1 lets through: with more of them nothing changes.
--- Loops that count children or levels are not among these: theirs do run out, with questions 19 and 16.
+-- Nor do those of a list: question 19 refuses before (`Lists`). Levels are no turns: they do run out, with question 16.
 -- Assumes nothing.
 use mathlib.Core.Path.{_≡_, sym}
 use mathlib.Core.List.{List}
@@ -13,10 +13,10 @@ use Rattle.grammar.specs.Lexer.{skipAll}
 use Rattle.grammar.specs.Attributes.{arithFlags, fastMathFlags, convFlags, skipAttrsIn}
 use Rattle.grammar.specs.Types.{TypeOut, suffixes}
 use Rattle.grammar.specs.Values.{parseGepFlags}
-use Rattle.grammar.specs.Instructions.{parseTrailingIn, allocaRest, gepInstIndices}
+use Rattle.grammar.specs.Instructions.{clausesIn, gepInstIndices}
 use Rattle.grammar.specs.Body.{parseBody, parseBlock, parseHead}
 use Rattle.theorem_turns.specs.Same.{Same, runs, Full}
-use Rattle.theorem_turns.specs.Loops.{full-arithFlags, full-fastMathFlags, full-convFlags, same-skipAll, same-skipAttrsIn, same-suffixes, same-parseGepFlags, same-parseTrailingIn, same-allocaRest, same-gepInstIndices, same-parseBody}
+use Rattle.theorem_turns.specs.Loops.{full-arithFlags, full-fastMathFlags, full-convFlags, same-skipAll, same-skipAttrsIn, same-suffixes, same-parseGepFlags, same-clausesIn, same-gepInstIndices, same-parseBody}
 use Rattle.theorem_turns.specs.Turned.{Turned, turned-same}
 
 -- Each loop gives the same with u turns as with v, where the cursor is at i and s is left of the text.
@@ -28,8 +28,7 @@ pub record Alike (u v i : ℕ) (s : List ℕ) : Type 0 where
   pub at-skipAttrsIn : run (skipAttrsIn u) i s ≡ run (skipAttrsIn v) i s
   pub at-suffixes : (bad : ℕ) (elem : Prog TypeOut) (t : List ℕ) → run (suffixes u bad elem t) i s ≡ run (suffixes v bad elem t) i s
   pub at-parseGepFlags : (inbounds : ℕ) → run (parseGepFlags u inbounds) i s ≡ run (parseGepFlags v inbounds) i s
-  pub at-parseTrailingIn : (align : List ℕ) → run (parseTrailingIn u align) i s ≡ run (parseTrailingIn v align) i s
-  pub at-allocaRest : (count : Option (List ℕ)) (align : List ℕ) → run (allocaRest u count align) i s ≡ run (allocaRest v count align) i s
+  pub at-clausesIn : (more : Prog (List ℕ)) (count : Option (List ℕ)) (align : List ℕ) → run (clausesIn u more count align) i s ≡ run (clausesIn v more count align) i s
   pub at-gepInstIndices : (k : ℕ) (acc : List ℕ) → run (gepInstIndices u k acc) i s ≡ run (gepInstIndices v k acc) i s
   pub at-parseBody : (l k over : ℕ) (acc : List ℕ) → run (parseBody u l k over acc) i s ≡ run (parseBody v l k over acc) i s
 
@@ -47,8 +46,7 @@ more-turns u v i s a b =
       at-skipAttrsIn = on-all i s (same-skipAttrsIn _ u v a b);
       at-suffixes = λ bad elem t. on-all i s (same-suffixes _ u v bad elem t a b);
       at-parseGepFlags = λ inbounds. on-all i s (same-parseGepFlags _ u v inbounds a b);
-      at-parseTrailingIn = λ align. on-all i s (same-parseTrailingIn _ u v align a b);
-      at-allocaRest = λ count align. on-all i s (same-allocaRest _ u v count align a b);
+      at-clausesIn = λ more count align. on-all i s (same-clausesIn _ u v more count align a b);
       at-gepInstIndices = λ k acc. on-all i s (same-gepInstIndices _ u v k acc a b);
       at-parseBody = λ l k over acc. on-all i s (same-parseBody _ u v l k over acc a b);
     }

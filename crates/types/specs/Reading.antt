@@ -7,7 +7,7 @@ use lib.ListN.{drop}
 use Rattle.program.specs.Prog.{Prog, ret, Res, ok, no-at, run, byteAt, _>>=_}
 use Rattle.program.specs.Bytes.{bytes}
 use Rattle.records.specs.Words.{node}
-use Rattle.records.specs.Kinds.{kVoid, kFloat, kDouble, kLabel, kMetadata}
+use Rattle.records.specs.Kinds.{kind, Void, Float, Double, Label, Metadata}
 use Rattle.grammar.specs.Lexer.{refuse, eatWs, wordIf}
 use Rattle.grammar.specs.Types.{Listed, TypeOut, plain, opened, ptrType, noType, parseTypeList, parseType}
 use Rattle.lexer.specs.Reads.{Budget, At, Goal, Leads}
@@ -44,10 +44,10 @@ Types d text p words p′ words′ = Leads (parseType d) 0 [] (typed (listOf d) 
 -- the types that are a word, or g
 unfoldable pub wordTypes : Prog (List ℕ) → Prog (List ℕ)
 wordTypes g =
-    wordIf (bytes "void") (ret (node kVoid 0 0 []))
-    (wordIf (bytes "float") (ret (node kFloat 0 0 []))
-    (wordIf (bytes "double") (ret (node kDouble 0 0 []))
+    wordIf (bytes "void") (ret (node (kind Void) 0 0 []))
+    (wordIf (bytes "float") (ret (node (kind Float) 0 0 []))
+    (wordIf (bytes "double") (ret (node (kind Double) 0 0 []))
     (wordIf (bytes "ptr") ptrType
-    (wordIf (bytes "label") (ret (node kLabel 0 0 []))
-    (wordIf (bytes "metadata") (ret (node kMetadata 0 0 []))
+    (wordIf (bytes "label") (ret (node (kind Label) 0 0 []))
+    (wordIf (bytes "metadata") (ret (node (kind Metadata) 0 0 []))
     g)))))

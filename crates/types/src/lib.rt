@@ -32,10 +32,10 @@ fn int_type(classes: &[u8; 256], text: &[u8], words: &mut [u64], p: Parsed) -> P
     ensures { λ r. ⌜ Leads intType 2 [] (made same (now (text .entry)) p) (now (text .entry)) p p (now (words .entry)) r (now (words .exit)) ⌝ }
 {
     let n = lexer::parse_int(classes, text, p, 1, records::WIDTH_LIMIT);
-    let p1 = n.p;
+    let q = n.p;
     let h = plain_header(records::K_INT, 2);
-    let p2 = writer::push(words, p1, h);
-    writer::push(words, p2, n.v)
+    let q1 = writer::push(words, q, h);
+    writer::push(words, q1, n.v)
 }
 
 // A node that holds a name, behind the sigil.
@@ -44,10 +44,10 @@ pub fn name_node(classes: &[u8; 256], text: &[u8], words: &mut [u64], p: Parsed,
     ensures { λ r. ⌜ Leads (nameNode kind) 2 [] (made same (now (text .entry)) p) (now (text .entry)) p p (now (words .entry)) r (now (words .exit)) ⌝ }
 {
     let n = names::name_word(classes, text, p);
-    let p1 = n.p;
+    let q = n.p;
     let h = plain_header(kind, 2);
-    let p2 = writer::push(words, p1, h);
-    writer::push(words, p2, n.v)
+    let q1 = writer::push(words, q, h);
+    writer::push(words, q1, n.v)
 }
 
 // `addrspace(..)`, where it stands.
@@ -79,12 +79,12 @@ fn ptr_type(classes: &[u8; 256], text: &[u8], words: &mut [u64], p: Parsed) -> P
     requires { ⌜ Classes (now classes) ⌝ }
     ensures { λ r. ⌜ Leads ptrType 1 [] (made same (now (text .entry)) p) (now (text .entry)) p p (now (words .entry)) r (now (words .exit)) ⌝ }
 {
-    let p1 = lexer::eat_ws(classes, text, p);
-    if lexer::looks(text, p1, b'a') {
-        let p2 = addrspace(classes, text, p1);
-        return leaf(words, p2, records::K_PTR);
+    let q = lexer::eat_ws(classes, text, p);
+    if lexer::looks(text, q, b'a') {
+        let q1 = addrspace(classes, text, q);
+        return leaf(words, q1, records::K_PTR);
     }
-    leaf(words, p1, records::K_PTR)
+    leaf(words, q, records::K_PTR)
 }
 
 // The types that are a word, or 5. No two words stand at one place, so they are tried by how often they come.
@@ -141,9 +141,9 @@ fn no_type(depth: usize) -> u64
     ensures { λ r. ⌜ r ≡ noType depth ⌝ }
 {
     if depth == 0 {
-        return 16;
+        return records::Q_DEPTH;
     }
-    5
+    records::Q_TYPE
 }
 
 // `{ T, T, .. }`, behind the opening brace.
@@ -169,9 +169,9 @@ fn parse_struct_fields(
     let mut left: usize = records::LIST_TURNS;
     let mut n: u16 = 0;
     while 0 < left {
-        let q1 = parse_type(classes, text, words, q, depth);
-        let q2 = lexer::count_child(q1, n);
-        let e = lexer::comma_or(classes, text, q2, b'}');
+        let r = parse_type(classes, text, words, q, depth);
+        let r1 = lexer::count_child(r, n);
+        let e = lexer::comma_or(classes, text, r1, b'}');
         n = one_more(n);
         q = e.p;
         if e.more {
@@ -208,16 +208,20 @@ pub fn parse_type_list(
     let mut left: usize = records::LIST_TURNS;
     let mut n: u16 = 1;
     while 0 < left {
-        let q1 = lexer::eat_ws(classes, text, q);
-        if lexer::looks(text, q1, b'.') {
-            let q2 = names::three_dots(text, q1, bad);
-            let q3 = lexer::expect_token(classes, text, q2, b')');
-            return Listed { p: q3, n, dots: 1 };
+        let r = lexer::eat_ws(classes, text, q);
+        if lexer::looks(text, r, b'.') {
+            let r1 = names::three_dots(text, r, bad);
+            let r2 = lexer::expect_token(classes, text, r1, b')');
+            return Listed {
+                p: r2,
+                n,
+                dots: records::D_DOTS,
+            };
         }
-        let q2 = parse_type(classes, text, words, q1, depth);
-        let q3 = lexer::count_child(q2, n);
-        let q4 = attributes::skip_attrs(classes, text, q3);
-        let e = lexer::comma_or(classes, text, q4, b')');
+        let r3 = parse_type(classes, text, words, r, depth);
+        let r4 = lexer::count_child(r3, n);
+        let r5 = attributes::skip_attrs(classes, text, r4);
+        let e = lexer::comma_or(classes, text, r5, b')');
         n = one_more(n);
         q = e.p;
         if e.more {
@@ -243,15 +247,15 @@ fn array_type(
     requires { ⌜ Classes (now classes) ⌝ }
     ensures { λ r. ⌜ ((end ≡ 40 → ⊥) → Leads (arrayType packed end (parseType depth)) 2 [] (made same (now (text .entry)) p) (now (text .entry)) p p (now (words .entry)) r (now (words .exit))) ⌝ }
 {
-    let p1 = writer::push(words, p, 0);
-    let p2 = lexer::eat_ws(classes, text, p1);
-    let n = lexer::parse_int(classes, text, p2, 0, records::NUMBER_LIMIT);
-    let p3 = n.p;
-    let p4 = writer::push(words, p3, n.v);
-    let p5 = lexer::expect_keyword(classes, text, p4, b"x");
-    let p6 = parse_type(classes, text, words, p5, depth);
-    let p7 = lexer::expect_token(classes, text, p6, end);
-    writer::close(words, p, p7, records::K_ARRAY, packed, 1)
+    let q = writer::push(words, p, 0);
+    let q1 = lexer::eat_ws(classes, text, q);
+    let n = lexer::parse_int(classes, text, q1, 0, records::NUMBER_LIMIT);
+    let q2 = n.p;
+    let q3 = writer::push(words, q2, n.v);
+    let q4 = lexer::expect_keyword(classes, text, q3, b"x");
+    let q5 = parse_type(classes, text, words, q4, depth);
+    let q6 = lexer::expect_token(classes, text, q5, end);
+    writer::close(words, p, q6, records::K_ARRAY, packed, 1)
 }
 
 // `{..}`, behind the opening brace.
@@ -265,10 +269,10 @@ fn struct_type(
     requires { ⌜ Classes (now classes) ⌝ }
     ensures { λ r. ⌜ Leads (structType (parseType depth)) 1 [] (made same (now (text .entry)) p) (now (text .entry)) p p (now (words .entry)) r (now (words .exit)) ⌝ }
 {
-    let p1 = writer::push(words, p, 0);
-    let l = parse_struct_fields(classes, text, words, p1, depth);
-    let p2 = l.p;
-    writer::close(words, p, p2, records::K_STRUCT, 0, l.n)
+    let q = writer::push(words, p, 0);
+    let l = parse_struct_fields(classes, text, words, q, depth);
+    let q1 = l.p;
+    writer::close(words, p, q1, records::K_STRUCT, 0, l.n)
 }
 
 // `<{..}>` and `<N x T>`, behind the `<`.
@@ -283,14 +287,14 @@ fn packed_type(
     ensures { λ r. ⌜ Leads (packedType (parseType depth)) 2 [] (made same (now (text .entry)) p) (now (text .entry)) p p (now (words .entry)) r (now (words .exit)) ⌝ }
 {
     if lexer::looks(text, p, b'{') {
-        let p1 = lexer::pass(text, p, 1);
-        let p2 = writer::push(words, p1, 0);
-        let l = parse_struct_fields(classes, text, words, p2, depth);
-        let p3 = l.p;
-        let p4 = lexer::expect_token(classes, text, p3, b'>');
-        return writer::close(words, p, p4, records::K_STRUCT, records::D_PACKED, l.n);
+        let q = lexer::pass(text, p, 1);
+        let q1 = writer::push(words, q, 0);
+        let l = parse_struct_fields(classes, text, words, q1, depth);
+        let q2 = l.p;
+        let q3 = lexer::expect_token(classes, text, q2, b'>');
+        return writer::close(words, p, q3, records::K_STRUCT, records::D_PACKED, l.n);
     }
-    array_type(classes, text, words, p, 1, b'>', depth)
+    array_type(classes, text, words, p, records::D_PACKED, b'>', depth)
 }
 
 // A type without what may stand behind it. No keyword begins with a byte that is tried first.
@@ -342,27 +346,27 @@ fn type_suffixes(
     let mut q = p;
     let mut left: usize = records::TURNS;
     while 0 < left {
-        let q1 = lexer::eat_ws(classes, text, q);
-        if lexer::looks(text, q1, b'(') {
-            let r1 = lexer::pass(text, q1, 1);
-            let l = parse_type_list(classes, text, words, r1, depth);
-            let r2 = l.p;
-            let r3 = lexer::eat_ws(classes, text, r2);
-            if lexer::looks(text, r3, b'*') {
-                let r4 = lexer::pass(text, r3, 1);
-                q = writer::replace(words, p0, r4, records::PTR_NODE);
+        let r = lexer::eat_ws(classes, text, q);
+        if lexer::looks(text, r, b'(') {
+            let s = lexer::pass(text, r, 1);
+            let l = parse_type_list(classes, text, words, s, depth);
+            let s1 = l.p;
+            let s2 = lexer::eat_ws(classes, text, s1);
+            if lexer::looks(text, s2, b'*') {
+                let t = lexer::pass(text, s2, 1);
+                q = writer::replace(words, p0, t, records::PTR_NODE);
                 left -= 1;
             } else {
-                return writer::back_to(q1, r3);
+                return writer::back_to(r, s2);
             }
         } else {
-            let q2 = opt_addrspace(classes, text, q1);
-            if lexer::looks(text, q2, b'*') {
-                let q3 = lexer::pass(text, q2, 1);
-                q = writer::replace(words, p0, q3, records::PTR_NODE);
+            let s = opt_addrspace(classes, text, r);
+            if lexer::looks(text, s, b'*') {
+                let t = lexer::pass(text, s, 1);
+                q = writer::replace(words, p0, t, records::PTR_NODE);
                 left -= 1;
             } else {
-                return q2;
+                return s;
             }
         }
     }

@@ -8,7 +8,7 @@ use lib.ListN.{length}
 use Rattle.program.specs.Bytes.{bytes}
 use Rattle.program.specs.Prog.{Prog, ret, _>>=_}
 use Rattle.records.specs.Words.{node}
-use Rattle.records.specs.Kinds.{kIntConst, kNull, kUndef, kPoison, kZeroInit}
+use Rattle.records.specs.Kinds.{kind, IntConst, Null, Undef, Poison, ZeroInit}
 use Rattle.grammar.specs.Lexer.{wordIf, wordAtIf}
 use Rattle.grammar.specs.Numbers.{parseF0x}
 use Rattle.grammar.specs.Values.{prefixIf, floatNode, cstring, parseGepFlags}
@@ -24,12 +24,12 @@ pub record Tried (F : Prog (List ℕ) → Prog (List ℕ)) (text : List ℕ) (p 
 -- the values that are a word, or g
 unfoldable pub keyValues : Prog (List ℕ) → Prog (List ℕ)
 keyValues g =
-    wordIf (bytes "true") (ret (node kIntConst 0 0 (0 ∷ 1 ∷ [])))
-    (wordIf (bytes "false") (ret (node kIntConst 0 0 (0 ∷ 0 ∷ [])))
-    (wordIf (bytes "null") (ret (node kNull 0 0 []))
-    (wordIf (bytes "undef") (ret (node kUndef 0 0 []))
-    (wordIf (bytes "poison") (ret (node kPoison 0 0 []))
-    (wordIf (bytes "zeroinitializer") (ret (node kZeroInit 0 0 []))
+    wordIf (bytes "true") (ret (node (kind IntConst) 0 0 (0 ∷ 1 ∷ [])))
+    (wordIf (bytes "false") (ret (node (kind IntConst) 0 0 (0 ∷ 0 ∷ [])))
+    (wordIf (bytes "null") (ret (node (kind Null) 0 0 []))
+    (wordIf (bytes "undef") (ret (node (kind Undef) 0 0 []))
+    (wordIf (bytes "poison") (ret (node (kind Poison) 0 0 []))
+    (wordIf (bytes "zeroinitializer") (ret (node (kind ZeroInit) 0 0 []))
     g)))))
 
 -- and those that begin with a word

@@ -99,7 +99,7 @@ fn gep_flag(classes: &[u8; 256], text: &[u8], p: Parsed, v: u8) -> Flags
         let q1 = lexer::pass_word(text, q, b"inbounds");
         return Flags {
             p: q1,
-            v: 1,
+            v: records::D_INBOUNDS,
             more: true,
         };
     }
@@ -120,10 +120,10 @@ fn gep_flag(classes: &[u8; 256], text: &[u8], p: Parsed, v: u8) -> Flags
         };
     }
     if lexer::word(classes, text, q, b"inrange") {
-        let q1 = lexer::pass_word(text, q, b"inrange");
-        let q2 = names::skip_parens(classes, text, q1);
+        let r = lexer::pass_word(text, q, b"inrange");
+        let r1 = names::skip_parens(classes, text, r);
         return Flags {
-            p: q2,
+            p: r1,
             v,
             more: true,
         };
@@ -168,10 +168,10 @@ pub fn parse_gep_flags(classes: &[u8; 256], text: &[u8], p: Parsed) -> Flags
 fn bool_node(words: &mut [u64], p: Parsed, x: u64) -> Parsed
     ensures { λ r. ⌜ ((text : List ℕ) → Leads (ret (node 18 0 0 (0 ∷ x ∷ []))) 3 [] (made same text p) text p p (now (words .entry)) r (now (words .exit))) ⌝ }
 {
-    let p1 = writer::push(words, p, 0);
-    let p2 = writer::push(words, p1, 0);
-    let p3 = writer::push(words, p2, x);
-    writer::close(words, p, p3, records::K_INT_CONST, 0, 0)
+    let q = writer::push(words, p, 0);
+    let q1 = writer::push(words, q, 0);
+    let q2 = writer::push(words, q1, x);
+    writer::close(words, p, q2, records::K_INT_CONST, 0, 0)
 }
 
 // The values that are a word. No two words stand at one place, so they are tried by how often they come.
@@ -221,12 +221,12 @@ fn cstring_value(classes: &[u8; 256], text: &[u8], words: &mut [u64], p: Parsed)
     let q = lexer::pass(text, p, 1);
     let from = lexer::place(q);
     if lexer::looks(text, q, b'"') {
-        let q1 = lexer::pass(text, q, 1);
-        let q2 = writer::push(words, q1, 0);
-        let n = names::cstring(classes, text, q2, from);
-        let q3 = n.p;
-        let q4 = writer::push(words, q3, n.v);
-        return writer::close(words, p, q4, records::K_CSTR, 0, 0);
+        let r = lexer::pass(text, q, 1);
+        let r1 = writer::push(words, r, 0);
+        let n = names::cstring(classes, text, r1, from);
+        let r2 = n.p;
+        let r3 = writer::push(words, r2, n.v);
+        return writer::close(words, p, r3, records::K_CSTR, 0, 0);
     }
     lexer::refuse_at(q, records::Q_VALUE, at)
 }
@@ -252,17 +252,17 @@ fn any_leaf(classes: &[u8; 256], text: &[u8], words: &mut [u64], p: Parsed) -> H
         return Hit { p: q, hit: true };
     }
     let k = key_value(classes, text, words, p);
-    let q1 = k.p;
+    let s = k.p;
     if k.hit {
-        return Hit { p: q1, hit: true };
+        return Hit { p: s, hit: true };
     }
     if lexer::word(classes, text, p, b"c") {
         let r = cstring_value(classes, text, words, p);
         return Hit { p: r, hit: true };
     }
-    if literals::starts(classes, text, p, b"f0x") {
-        let q2 = lexer::pass_word(text, p, b"f0x");
-        let r = literals::f0x_value(classes, text, words, q2);
+    if numerals::tests::starts(classes, text, p, b"f0x") {
+        let t = lexer::pass_word(text, p, b"f0x");
+        let r = literals::f0x_value(classes, text, words, t);
         return Hit { p: r, hit: true };
     }
     Hit { p, hit: false }
@@ -331,10 +331,10 @@ fn aggregate(
     requires { ⌜ Classes (now classes) ⌝ }
     ensures { λ r. ⌜ Leads (aggregate kind end (parseType depth) (parseValue depth)) 1 [] (made same (now (text .entry)) p) (now (text .entry)) p p (now (words .entry)) r (now (words .exit)) ⌝ }
 {
-    let p1 = writer::push(words, p, 0);
-    let l = pair_list(classes, text, words, p1, end, depth);
-    let p2 = l.p;
-    writer::close(words, p, p2, kind, 0, l.n)
+    let q = writer::push(words, p, 0);
+    let l = pair_list(classes, text, words, q, end, depth);
+    let q1 = l.p;
+    writer::close(words, p, q1, kind, 0, l.n)
 }
 
 // `<{..}>`, behind the `<` that stands at `at`.
@@ -350,12 +350,12 @@ fn packed_const(
     ensures { λ r. ⌜ Leads (packedConst at (parseType depth) (parseValue depth)) 1 [] (made same (now (text .entry)) p) (now (text .entry)) p p (now (words .entry)) r (now (words .exit)) ⌝ }
 {
     if lexer::looks(text, p, b'{') {
-        let p1 = lexer::pass(text, p, 1);
-        let p2 = writer::push(words, p1, 0);
-        let l = pair_list(classes, text, words, p2, b'}', depth);
-        let p3 = l.p;
-        let p4 = lexer::expect_token(classes, text, p3, b'>');
-        return writer::close(words, p, p4, records::K_STRUCT_CONST, 0, l.n);
+        let q = lexer::pass(text, p, 1);
+        let q1 = writer::push(words, q, 0);
+        let l = pair_list(classes, text, words, q1, b'}', depth);
+        let q2 = l.p;
+        let q3 = lexer::expect_token(classes, text, q2, b'>');
+        return writer::close(words, p, q3, records::K_STRUCT_CONST, 0, l.n);
     }
     lexer::refuse_at(p, records::Q_VALUE, at)
 }
@@ -403,15 +403,15 @@ fn parse_ce_gep(
     ensures { λ r. ⌜ Leads (parseCeGep (parseType depth) (parseValue depth)) 1 [] (made same (now (text .entry)) p) (now (text .entry)) p p (now (words .entry)) r (now (words .exit)) ⌝ }
 {
     let f = parse_gep_flags(classes, text, p);
-    let p1 = f.p;
-    let p2 = writer::push(words, p1, 0);
-    let p3 = lexer::expect_token(classes, text, p2, b'(');
-    let p4 = types::parse_type(classes, text, words, p3, depth);
-    let p5 = lexer::expect_token(classes, text, p4, b',');
-    let p6 = parse_typed_val(classes, text, words, p5, depth);
-    let l = gep_indices(classes, text, words, p6, depth);
-    let p7 = l.p;
-    writer::close(words, p, p7, records::K_GEP_EXPR, f.v, l.n)
+    let q = f.p;
+    let q1 = writer::push(words, q, 0);
+    let q2 = lexer::expect_token(classes, text, q1, b'(');
+    let q3 = types::parse_type(classes, text, words, q2, depth);
+    let q4 = lexer::expect_token(classes, text, q3, b',');
+    let q5 = parse_typed_val(classes, text, words, q4, depth);
+    let l = gep_indices(classes, text, words, q5, depth);
+    let q6 = l.p;
+    writer::close(words, p, q6, records::K_GEP_EXPR, f.v, l.n)
 }
 
 // A conversion of a constant, behind the word (`parse_ce_conv_body`).
@@ -426,13 +426,13 @@ fn parse_ce_conv(
     requires { ⌜ Classes (now classes) ⌝ }
     ensures { λ r. ⌜ Leads (parseCeConv op (parseType depth) (parseValue depth)) 1 [] (made same (now (text .entry)) p) (now (text .entry)) p p (now (words .entry)) r (now (words .exit)) ⌝ }
 {
-    let p1 = writer::push(words, p, 0);
-    let p2 = lexer::expect_token(classes, text, p1, b'(');
-    let p3 = parse_typed_val(classes, text, words, p2, depth);
-    let p4 = lexer::expect_keyword(classes, text, p3, b"to");
-    let p5 = types::parse_type(classes, text, words, p4, depth);
-    let p6 = lexer::expect_token(classes, text, p5, b')');
-    writer::close(words, p, p6, records::K_CONV_EXPR, op, 3)
+    let q = writer::push(words, p, 0);
+    let q1 = lexer::expect_token(classes, text, q, b'(');
+    let q2 = parse_typed_val(classes, text, words, q1, depth);
+    let q3 = lexer::expect_keyword(classes, text, q2, b"to");
+    let q4 = types::parse_type(classes, text, words, q3, depth);
+    let q5 = lexer::expect_token(classes, text, q4, b')');
+    writer::close(words, p, q5, records::K_CONV_EXPR, op, 3)
 }
 
 // An operation on two constants, behind the word.
@@ -447,14 +447,14 @@ fn parse_ce_bin(
     requires { ⌜ Classes (now classes) ⌝ }
     ensures { λ r. ⌜ Leads (parseCeBin op (parseType depth) (parseValue depth)) 1 [] (made same (now (text .entry)) p) (now (text .entry)) p p (now (words .entry)) r (now (words .exit)) ⌝ }
 {
-    let p1 = writer::push(words, p, 0);
-    let p2 = attributes::skip_arith_flags(classes, text, p1);
-    let p3 = lexer::expect_token(classes, text, p2, b'(');
-    let p4 = parse_typed_val(classes, text, words, p3, depth);
-    let p5 = lexer::expect_token(classes, text, p4, b',');
-    let p6 = parse_typed_val(classes, text, words, p5, depth);
-    let p7 = lexer::expect_token(classes, text, p6, b')');
-    writer::close(words, p, p7, records::K_BIN_EXPR, op, 4)
+    let q = writer::push(words, p, 0);
+    let q1 = attributes::skip_arith_flags(classes, text, q);
+    let q2 = lexer::expect_token(classes, text, q1, b'(');
+    let q3 = parse_typed_val(classes, text, words, q2, depth);
+    let q4 = lexer::expect_token(classes, text, q3, b',');
+    let q5 = parse_typed_val(classes, text, words, q4, depth);
+    let q6 = lexer::expect_token(classes, text, q5, b')');
+    writer::close(words, p, q6, records::K_BIN_EXPR, op, 4)
 }
 
 // Constant expressions, or 6.
@@ -560,13 +560,13 @@ pub fn pair_child(
         let q1 = lexer::refuse(q, records::Q_DEPTH);
         return Pair { p: q1, n };
     }
-    let q1 = types::parse_type(classes, text, words, p, depth);
-    let q2 = lexer::count_child(q1, n);
+    let r = types::parse_type(classes, text, words, p, depth);
+    let r1 = lexer::count_child(r, n);
     let k = types::one_more(n);
-    let q3 = parse_value(classes, text, words, q2, depth);
-    let q4 = lexer::count_child(q3, k);
+    let r2 = parse_value(classes, text, words, r1, depth);
+    let r3 = lexer::count_child(r2, k);
     let m = types::one_more(k);
-    Pair { p: q4, n: m }
+    Pair { p: r3, n: m }
 }
 
 // A type and a value (`parse_typed_val`).

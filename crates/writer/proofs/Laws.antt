@@ -109,6 +109,10 @@ module _ {A : Type 0} {mid : List ℕ} {E : Goal A} {text : List ℕ} {p0 : Pars
     hands = λ n y t. h .hands n y (o .0 ∙ ap pushed t);
   }
 
+-- an instruction's node is begun
+pub begin-then : {A : Type 0} {E : Goal A} {text : List ℕ} {p0 p′ : Parsed} {w w′ : List ℕ} {c : ℕ} {f : Prog A} (dest : ℕ) {p q : Parsed} {v : List ℕ} → (q ≡ pushed (pushed p)) × (v ≡ pushes dest (pushed p) (pushes 0 p w)) → Leads f c (0 ∷ dest ∷ []) E text p0 q v p′ w′ → Leads f (suc (suc c)) [] E text p0 p w p′ w′
+begin-then {w = w} dest {p} o h = push-then 0 {q = pushed p} {v = pushes 0 p w} (refl, refl) (push-then dest o h)
+
 -- a node ends
 pub close-is : (kind d n : ℕ) {c : ℕ} (body : List ℕ) {text : List ℕ} {p0 p q : Parsed} {w w′ : List ℕ} → (q ≡ p) × (w′ ≡ closes kind d n p0 p w) → Leads (ret (node kind d n body)) c (0 ∷ body) (made same text p0) text p0 p w q w′
 unfolding run

@@ -35,6 +35,14 @@ pub fn push(words: &mut [u64], p: Parsed, x: u64) -> Parsed
     }
 }
 
+// Begins the node of an instruction: a slot for its header, and its destination.
+pub fn begin(words: &mut [u64], p: Parsed, dest: u64) -> Parsed
+    ensures { λ r. ⌜ (r ≡ pushed (pushed p)) × (now (words .exit) ≡ pushes dest (pushed p) (pushes 0 p (now (words .entry)))) ⌝ }
+{
+    let q = push(words, p, 0);
+    push(words, q, dest)
+}
+
 // A header word.
 fn header_of(kind: u8, d: u8, n: u16, from: usize, to: usize) -> u64
     ensures { λ r. ⌜ r ≡ headerOf kind d n from to ⌝ }

@@ -34,10 +34,11 @@ fn listed(function: &str, end: &str, from: &str, to: &str) -> Vec<String> {
     quoted(between(between(&parser(), &format!("fn {function}("), end), from, to))
 }
 
-/// The words of a table in the definitions: `NAME = bytes ".." ∷ .. ∷ []`.
+/// The words of a table in the definitions: `NAME = table "one two" ++ table "three"`, up to an empty line.
 fn table(module: &str, name: &str) -> Vec<String> {
     let text = read(&format!("../../crates/grammar/specs/{module}.antt"));
-    quoted(between(&text, &format!("\n{name} ="), "[]"))
+    let rows = quoted(between(&text, &format!("\n{name} ="), "\n\n"));
+    rows.iter().flat_map(|row| row.split(' ')).map(str::to_string).collect()
 }
 
 /// The words that one function of the Rust tries with `match_keyword`.

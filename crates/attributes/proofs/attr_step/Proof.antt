@@ -162,33 +162,22 @@ pub attr-step-spec : {M : Type 1} → statement M
 attr-step-spec =
     tie.close
     (tie.spec
-    (λ c κs. search needs)
-    (λ c κs. search needs)
-    (λ c κs. search needs)
-    (λ c κs. search needs)
+    (λ c. search needs) (λ c. search needs) (λ c. search needs) (λ c. search needs)
     returns
-    (λ c κs. search needs)
-    (λ c κs. search needs)
+    (λ c. search needs) (λ c. search needs)
     returns-2
-    (λ c κs. search needs)
+    (λ c. search needs)
     returns-3
-    (λ c. search needs)
-    (λ c κs. search needs)
-    (λ c. search needs)
-    (λ c κs. search needs)
+    (λ c. search needs) (λ c. search needs) (λ c. search needs) (λ c. search needs)
     returns-4
-    (λ c κs. search needs)
+    (λ c. search needs)
     returns-5
-    (λ c κs. search needs)
-    (λ c κs. search needs)
+    (λ c. search needs) (λ c. search needs)
     returns-6
-    (λ c. search needs)
-    (λ c κs. search needs)
-    (λ c. search needs)
-    (λ c κs. search needs)
+    (λ c. search needs) (λ c. search needs) (λ c. search needs) (λ c. search needs)
     eat-ws-requires-2
     parse-int-requires
     returns-7
-    (λ c κs. search needs)
+    (λ c. search needs)
     returns-8
     returns-9)

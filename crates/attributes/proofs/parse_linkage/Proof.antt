@@ -19,4 +19,4 @@ returns-2 c =
     (g-rank-no _ _ _ (c .before .linkage .ensures) (c .if1 .left) g-done)
 
 pub parse-linkage-spec : {M : Type 1} → statement M
-parse-linkage-spec = tie.close (tie.spec (λ c κs. search needs) (λ c κs. search needs) returns returns-2)
+parse-linkage-spec = tie.close (tie.spec (λ c. search needs) (λ c. search needs) returns returns-2)

@@ -8,4 +8,4 @@ returns c = rw (c .before .before .p .given .1) (c .letters-at .ensures)
 
 pub two-letters-spec : {M : Type 1} → statement M
 two-letters-spec =
-    tie.close (tie.spec (λ c. search needs) (λ c κs. search needs) (λ c. search needs) returns (λ c. search needs))
+    tie.close (tie.spec (λ c. search needs) (λ c. search needs) (λ c. search needs) returns (λ c. search needs))

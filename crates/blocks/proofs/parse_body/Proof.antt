@@ -90,24 +90,20 @@ parse-body-spec =
     Inv-loop
     μ-loop
     loop-holds
-    (λ c κs. search needs)
-    (λ c κs. search needs)
-    (λ c κs. search needs)
+    (λ c. search needs) (λ c. search needs) (λ c. search needs)
     same-length
     returns
-    (λ c κs. search needs)
-    (λ c κs. search needs)
+    (λ c. search needs) (λ c. search needs)
     sub-left
     loop-less
     loop-again
-    (λ c κs. search needs)
-    (λ c κs. search needs)
+    (λ c. search needs) (λ c. search needs)
     add-n
     sub-left-2
     loop-less-2
     loop-again-2
     same-length-2
     returns-2
-    (λ c κs. search needs)
+    (λ c. search needs)
     same-length-3
     returns-3)

@@ -52,17 +52,11 @@ copy-spec =
     Inv-loop
     μ-loop
     returns
-    (λ c κs. search needs)
+    (λ c. search needs)
     loop-holds
     same-length
     returns-2
-    (λ c. search needs)
-    (λ c. search needs)
-    (λ c. search needs)
-    (λ c. search needs)
-    (λ c. search needs)
-    (λ c. search needs)
-    (λ c. search needs)
+    (λ c. search needs) (λ c. search needs) (λ c. search needs) (λ c. search needs) (λ c. search needs) (λ c. search needs) (λ c. search needs)
     (λ c. search needs)
     loop-again
     same-length-2

@@ -8,7 +8,7 @@ use Rattle.operands.proofs.RichLaws.{enrich, then-rich}
 use Rattle.operands.specs.Found.{typeOf}
 use Rattle.grammar.specs.Instructions.{funcNode, callRest, callOf, parseCall}
 use Rattle.lexer.proofs.Laws.{val, token-yes, token-no, spare}
-use Rattle.writer.proofs.Laws.{push-then}
+use Rattle.writer.proofs.Laws.{begin-then}
 use Rattle.lexer.specs.Step.{passed}
 use lib.ListN.{length}
 use Prim.Native.Nat.{_+_}
@@ -20,15 +20,14 @@ use Rattle.calls.proofs.parse_call.Statement.{statement}
 use Rattle.calls.proofs.parse_call.Tie as tie
 
 call-rest-requires : tie.Need-call-rest-requires
-call-rest-requires c κs = c .before .before .before .before .before .before .before .before .before .before .before .before .before .before .before .before .before .before .before .before .before .before .before .before .before .pre
+call-rest-requires c κs = c .before .before .before .before .before .before .before .before .before .before .before .before .before .before .before .before .before .before .before .before .before .pre
 
 same-length : tie.Need-same-length
 same-length c =
     let c2 = c .before .before in
     let c6 = c2 .before .before .before .before in
     let c14 = c6 .before .before .before .before .before .before .before .before in
-    let c20 = c14 .before .before .before .before .before .before in
-    c2 .call-rest .kept .1 .1 .0 ∙ c6 .func-type .kept .1 .1 .0 ∙ c14 .parse-type .kept .1 .1 .0 ∙ c20 .push2 .kept .0 ∙ c20 .before .before .before .before .push .kept .0
+    c2 .call-rest .kept .1 .1 .0 ∙ c6 .func-type .kept .1 .1 .0 ∙ c14 .parse-type .kept .1 .1 .0 ∙ c14 .before .before .before .before .before .before .begin .kept .0
 
 returns : tie.Need-returns
 unfolding parseCall callOf funcType
@@ -42,19 +41,17 @@ returns c =
     let c16 = c14 .before .before in
     let c20 = c16 .before .before .before .before in
     let c24 = c20 .before .before .before .before in
-    let c28 = c24 .before .before .before .before in
-    push-then _ (c24 .push .ensures)
-    (push-then _ (c20 .push2 .ensures)
+    begin-then _ (c20 .begin .ensures)
     (val _ (c16 .before .skip-call-cconv .ensures)
     (val _ (c16 .skip-attrs .ensures)
     (since
     (λ S. type-twice _ (c14 .parse-type .ensures) (call-opened _ _)
     (λ a F. token-yes _ _ (c11 .eat-ws .ensures) (c9 .before .looks .ensures) (c9 .if1 .taken) (c8 .pass .ensures)
-    (held (0 ∷ c28 .args .dest ∷ []) (typeOf a) S (found-on (found-on F (c11 .eat-ws .ensures .hands))
-    (λ e x i. c8 .pass .ensures ∙ ap (passed (c28 .args .text .now) 1) i))
-    (λ H. made-then _ (funcNode (typeOf a)) (λ x. callRest (c28 .args .dest) 1 3 (typeOf a ++ x))
+    (held (0 ∷ c24 .args .dest ∷ []) (typeOf a) S (found-on (found-on F (c11 .eat-ws .ensures .hands))
+    (λ e x i. c8 .pass .ensures ∙ ap (passed (c24 .args .text .now) 1) i))
+    (λ H. made-then _ (funcNode (typeOf a)) (λ x. callRest (c24 .args .dest) 1 3 (typeOf a ++ x))
     (spare (length (typeOf a) + 1 + 0) (omega arith)
-    (then-rich (length (typeOf a) + 1) _ (enrich (c6 .func-type .ensures (typeOf a) H)) (λ ws. enrich (c2 .call-rest .ensures _ _))))))))))))
+    (then-rich (length (typeOf a) + 1) _ (enrich (c6 .func-type .ensures (typeOf a) H)) (λ ws. enrich (c2 .call-rest .ensures _ _)))))))))))
 
 returns-2 : tie.Need-returns-2
 unfolding parseCall callOf
@@ -64,31 +61,21 @@ returns-2 c =
     let c6 = c4 .before .before in
     let c9 = c6 .before .before .before in
     let c11 = c9 .before .before in
-    let c15 = c11 .before .before .before .before in
-    push-then _ (c15 .before .before .before .before .push .ensures)
-    (push-then _ (c15 .push2 .ensures)
+    begin-then _ (c11 .before .before .before .before .begin .ensures)
     (val _ (c11 .before .skip-call-cconv .ensures)
     (val _ (c11 .skip-attrs .ensures)
     (type-twice _ (c9 .parse-type .ensures) (call-opened _ _)
     (λ a F. token-no _ _ (c6 .eat-ws .ensures) (c4 .before .looks .ensures) (c4 .if1 .left)
-    (spare 0 (omega arith) (enrich (c2 .call-rest2 .ensures _ _))))))))
+    (spare 0 (omega arith) (enrich (c2 .call-rest2 .ensures _ _)))))))
 
 pub parse-call-spec : {M : Type 1} → statement M
 parse-call-spec =
     tie.close
     (tie.spec
-    (λ c κs. search needs)
-    (λ c κs. search needs)
-    (λ c κs. search needs)
-    (λ c κs. search needs)
-    (λ c κs. search needs)
-    (λ c κs. search needs)
-    (λ c κs. search needs)
-    (λ c κs. search needs)
-    (λ c κs. search needs)
+    (λ c. search needs) (λ c. search needs) (λ c. search needs) (λ c. search needs) (λ c. search needs) (λ c. search needs) (λ c. search needs)
+    (λ c. search needs)
     call-rest-requires
     same-length
     returns
-    (λ c κs. search needs)
-    (λ c. search needs)
+    (λ c. search needs) (λ c. search needs)
     returns-2)

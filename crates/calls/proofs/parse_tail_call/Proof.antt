@@ -17,8 +17,5 @@ pub parse-tail-call-spec : {M : Type 1} → statement M
 parse-tail-call-spec =
     tie.close
     (tie.spec
-    (λ c. search needs)
-    (λ c κs. search needs)
-    (λ c κs. search needs)
-    (λ c. search needs)
+    (λ c. search needs) (λ c. search needs) (λ c. search needs) (λ c. search needs)
     returns)

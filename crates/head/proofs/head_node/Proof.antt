@@ -113,27 +113,19 @@ pub head-node-spec : {M : Type 1} → statement M
 head-node-spec =
     tie.close
     (tie.spec
-    (λ c κs. search needs)
-    (λ c κs. search needs)
-    (λ c κs. search needs)
-    (λ c κs. search needs)
-    (λ c κs. search needs)
-    (λ c κs. search needs)
-    (λ c κs. search needs)
-    (λ c κs. search needs)
+    (λ c. search needs) (λ c. search needs) (λ c. search needs) (λ c. search needs) (λ c. search needs) (λ c. search needs) (λ c. search needs)
+    (λ c. search needs)
     parse-global-name-requires
-    (λ c κs. search needs)
+    (λ c. search needs)
     expect-token-requires
     parse-param-list-requires
     skip-attrs-requires-3
     eat-ws-requires
-    (λ c κs. search needs)
-    (λ c κs. search needs)
-    (λ c. search needs)
+    (λ c. search needs) (λ c. search needs) (λ c. search needs)
     add-detail
-    (λ c κs. search needs)
+    (λ c. search needs)
     same-length
     returns
-    (λ c κs. search needs)
+    (λ c. search needs)
     same-length-2
     returns-2)

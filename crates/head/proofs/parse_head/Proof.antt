@@ -13,4 +13,4 @@ returns c =
     )
 
 pub parse-head-spec : {M : Type 1} → statement M
-parse-head-spec = tie.close (tie.spec (λ c κs. search needs) (λ c κs. search needs) (λ c. search needs) returns)
+parse-head-spec = tie.close (tie.spec (λ c. search needs) (λ c. search needs) (λ c. search needs) returns)

@@ -1,6 +1,6 @@
 -- The code's calls are the definition's steps in the same order; the predicate, behind `samesign`, is kept for the header, which is written last.
-use Rattle.lexer.proofs.Laws.{then, val}
-use Rattle.writer.proofs.Laws.{push-then, close-is}
+use Rattle.lexer.proofs.Laws.{val}
+use Rattle.writer.proofs.Laws.{begin-then}
 use Rattle.grammar.specs.Instructions.{parseIcmp}
 use borrow.Author.Needs.{needs}
 use Rattle.instructions.proofs.parse_icmp.Statement.{statement}
@@ -11,26 +11,14 @@ unfolding parseIcmp
 returns c =
     let c2 = c .before .before in
     let c4 = c2 .before .before in
-    let c7 = c4 .before .before .before in
-    let c9 = c7 .before .before in
-    let c13 = c9 .before .before .before .before in
-    push-then _ (c13 .before .before .before .before .push .ensures)
-    (push-then _ (c13 .push2 .ensures)
-    (val _ (c9 .before .skip-samesign .ensures)
-    (val _ (c9 .parse-icmp-pred .ensures)
-    (then _ (c7 .two-operands .ensures)
-    (λ x. val _ (c4 .parse-trailing .ensures) (close-is _ _ _ _ (c2 .close .ensures)))))))
+    begin-then _ (c4 .before .before .before .before .begin .ensures)
+    (val _ (c4 .before .skip-samesign .ensures)
+    (val _ (c4 .parse-icmp-pred .ensures)
+    (c2 .binary .ensures _)))
 
 pub parse-icmp-spec : {M : Type 1} → statement M
 parse-icmp-spec =
     tie.close
     (tie.spec
-    (λ c κs. search needs)
-    (λ c κs. search needs)
-    (λ c κs. search needs)
-    (λ c κs. search needs)
-    (λ c κs. search needs)
-    (λ c κs. search needs)
-    (λ c κs. search needs)
-    (λ c. search needs)
+    (λ c. search needs) (λ c. search needs) (λ c. search needs) (λ c. search needs) (λ c. search needs)
     returns)

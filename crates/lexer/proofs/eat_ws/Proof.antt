@@ -14,4 +14,4 @@ returns-2 : tie.Need-returns-2
 returns-2 c = rw (c .before .p2 .given .1) (kept _ _)
 
 pub eat-ws-spec : {M : Type 1} → statement M
-eat-ws-spec = tie.close (tie.spec (λ c. search needs) (λ c κs. search needs) (λ c. search needs) returns returns-2)
+eat-ws-spec = tie.close (tie.spec (λ c. search needs) (λ c. search needs) (λ c. search needs) returns returns-2)

@@ -19,4 +19,4 @@ returns-2 c =
 
 pub skip-keyword-spec : {M : Type 1} → statement M
 skip-keyword-spec =
-    tie.close (tie.spec (λ c κs. search needs) (λ c κs. search needs) (λ c κs. search needs) returns returns-2)
+    tie.close (tie.spec (λ c. search needs) (λ c. search needs) (λ c. search needs) returns returns-2)

@@ -32,4 +32,4 @@ returns-5 c = rw (ne-eqb _ _ (c .before .if1 .left), ne-eqb _ _ (c .if4 .left))
 
 pub space-step-spec : {M : Type 1} → statement M
 space-step-spec =
-    tie.close (tie.spec returns (λ c κs. search needs) returns-2 returns-3 returns-4 returns-5)
+    tie.close (tie.spec returns (λ c. search needs) returns-2 returns-3 returns-4 returns-5)

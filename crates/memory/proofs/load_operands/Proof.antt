@@ -17,4 +17,4 @@ returns c =
 pub load-operands-spec : {M : Type 1} → statement M
 load-operands-spec =
     tie.close
-    (tie.spec (λ c κs. search needs) (λ c κs. search needs) (λ c κs. search needs) (λ c. search needs) returns)
+    (tie.spec (λ c. search needs) (λ c. search needs) (λ c. search needs) (λ c. search needs) returns)

@@ -9,4 +9,4 @@ unfolding parseLoad
 returns c = c .before .before .parse-access .ensures
 
 pub parse-load-spec : {M : Type 1} → statement M
-parse-load-spec = tie.close (tie.spec (λ c κs. search needs) (λ c. search needs) returns)
+parse-load-spec = tie.close (tie.spec (λ c. search needs) (λ c. search needs) returns)

@@ -9,4 +9,4 @@ unfolding parseStore
 returns c = c .before .before .parse-access .ensures
 
 pub parse-store-spec : {M : Type 1} → statement M
-parse-store-spec = tie.close (tie.spec (λ c κs. search needs) (λ c. search needs) returns)
+parse-store-spec = tie.close (tie.spec (λ c. search needs) (λ c. search needs) returns)

@@ -11,4 +11,4 @@ returns-2 : tie.Need-returns-2
 returns-2 c = some-align _ _ _ _ (c .before .before .before .before .if1 .left) (c .before .before .push .ensures)
 
 pub push-align-spec : {M : Type 1} → statement M
-push-align-spec = tie.close (tie.spec returns (λ c κs. search needs) (λ c. search needs) returns-2)
+push-align-spec = tie.close (tie.spec returns (λ c. search needs) (λ c. search needs) returns-2)

@@ -9,4 +9,4 @@ unfolding parseGlobalName
 returns c = c .sigil-name .ensures
 
 pub parse-global-name-spec : {M : Type 1} → statement M
-parse-global-name-spec = tie.close (tie.spec (λ c κs. search needs) returns)
+parse-global-name-spec = tie.close (tie.spec (λ c. search needs) returns)

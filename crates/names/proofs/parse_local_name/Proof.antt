@@ -9,4 +9,4 @@ unfolding parseLocalName
 returns c = c .sigil-name .ensures
 
 pub parse-local-name-spec : {M : Type 1} → statement M
-parse-local-name-spec = tie.close (tie.spec (λ c κs. search needs) returns)
+parse-local-name-spec = tie.close (tie.spec (λ c. search needs) returns)

@@ -67,9 +67,9 @@ quote-step-spec =
     returns-3
     returns-4
     returns-5
-    (λ c κs. search needs)
+    (λ c. search needs)
     returns-6
     returns-7
-    (λ c κs. search needs)
+    (λ c. search needs)
     returns-8
     returns-9)

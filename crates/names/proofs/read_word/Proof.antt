@@ -64,19 +64,15 @@ pub read-word-spec : {M : Type 1} → statement M
 read-word-spec =
     tie.close
     (tie.spec
-    (λ c. search needs)
-    (λ c κs. search needs)
+    (λ c. search needs) (λ c. search needs)
     add-from
-    (λ c κs. search needs)
-    (λ c κs. search needs)
+    (λ c. search needs) (λ c. search needs)
     returns
-    (λ c κs. search needs)
+    (λ c. search needs)
     add-end
     returns-2
-    (λ c κs. search needs)
-    returns-3
-    (λ c κs. search needs)
     (λ c. search needs)
-    (λ c κs. search needs)
+    returns-3
+    (λ c. search needs) (λ c. search needs) (λ c. search needs)
     returns-4
     returns-5)

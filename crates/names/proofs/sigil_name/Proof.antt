@@ -18,10 +18,7 @@ pub sigil-name-spec : {M : Type 1} → statement M
 sigil-name-spec =
     tie.close
     (tie.spec
-    (λ c κs. search needs)
-    (λ c κs. search needs)
-    (λ c κs. search needs)
-    (λ c κs. search needs)
+    (λ c. search needs) (λ c. search needs) (λ c. search needs) (λ c. search needs)
     returns
-    (λ c κs. search needs)
+    (λ c. search needs)
     returns-2)

@@ -14,4 +14,4 @@ returns c =
     (push-then _ (c .before .before .push2 .ensures) done)
 
 pub label-node-spec : {M : Type 1} → statement M
-label-node-spec = tie.close (tie.spec (λ c κs. search needs) (λ c κs. search needs) (λ c. search needs) returns)
+label-node-spec = tie.close (tie.spec (λ c. search needs) (λ c. search needs) (λ c. search needs) returns)

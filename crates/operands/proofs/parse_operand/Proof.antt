@@ -16,4 +16,4 @@ returns c =
 
 pub parse-operand-spec : {M : Type 1} → statement M
 parse-operand-spec =
-    tie.close (tie.spec (λ c κs. search needs) (λ c κs. search needs) (λ c κs. search needs) (λ c. search needs) returns)
+    tie.close (tie.spec (λ c. search needs) (λ c. search needs) (λ c. search needs) (λ c. search needs) returns)

@@ -1,6 +1,8 @@
 -- The definition's tests in their order: a comma, then `align` with its number, else `!`, else the refusal; without a comma the clauses are over.
 use Rattle.operands.specs.Trailing.{alignOf}
-use Rattle.grammar.specs.Instructions.{parseTrailingIn}
+use Rattle.program.specs.Prog.{_>>=_}
+use Rattle.grammar.specs.Lexer.{refuse}
+use Rattle.grammar.specs.Instructions.{clausesIn}
 use Rattle.lexer.proofs.Laws.{true-false, g-then, g-done, g-stay, g-byte-yes, g-byte-no, g-word-yes, g-word-no, g-token-yes, g-token-no, g-fail}
 use mathlib.Core.Path.{sym}
 use borrow.Author.Needs.{needs}
@@ -8,7 +10,7 @@ use Rattle.operands.proofs.trail_step.Statement.{statement}
 use Rattle.operands.proofs.trail_step.Tie as tie
 
 returns : tie.Need-returns
-unfolding parseTrailingIn alignOf
+unfolding clausesIn alignOf
 returns c =
     let c2 = c .before .before in
     let c4 = c2 .before .before in
@@ -23,7 +25,7 @@ returns c =
     }
 
 returns-2 : tie.Need-returns-2
-unfolding parseTrailingIn alignOf
+unfolding clausesIn alignOf
 returns-2 c =
     let c2 = c .before .before in
     let c4 = c2 .before .before in
@@ -38,7 +40,7 @@ returns-2 c =
     }
 
 returns-3 : tie.Need-returns-3
-unfolding parseTrailingIn alignOf
+unfolding refuse _>>=_ clausesIn alignOf
 returns-3 c =
     let c2 = c .before .before in
     let c4 = c2 .before .before in
@@ -53,28 +55,18 @@ returns-3 c =
     }
 
 returns-4 : tie.Need-returns-4
-unfolding parseTrailingIn alignOf
+unfolding clausesIn alignOf
 returns-4 c = record { again = λ e u. true-false e; over = λ e u. g-token-no _ _ (c .before .before .eat-ws .ensures) (c .before .looks .ensures) (c .if1 .left) g-done }
 
 pub trail-step-spec : {M : Type 1} → statement M
 trail-step-spec =
     tie.close
     (tie.spec
-    (λ c κs. search needs)
-    (λ c κs. search needs)
-    (λ c κs. search needs)
-    (λ c κs. search needs)
-    (λ c. search needs)
-    (λ c κs. search needs)
-    (λ c. search needs)
-    (λ c κs. search needs)
-    (λ c κs. search needs)
-    (λ c κs. search needs)
+    (λ c. search needs) (λ c. search needs) (λ c. search needs) (λ c. search needs) (λ c. search needs) (λ c. search needs) (λ c. search needs)
+    (λ c. search needs) (λ c. search needs) (λ c. search needs)
     returns
-    (λ c κs. search needs)
-    (λ c κs. search needs)
-    (λ c κs. search needs)
+    (λ c. search needs) (λ c. search needs) (λ c. search needs)
     returns-2
-    (λ c κs. search needs)
+    (λ c. search needs)
     returns-3
     returns-4)

@@ -134,25 +134,19 @@ pub read-again-spec : {M : Type 1} → statement M
 read-again-spec =
     tie.close
     (tie.spec
-    (λ c κs. search needs)
-    (λ c κs. search needs)
-    (λ c κs. search needs)
+    (λ c. search needs) (λ c. search needs) (λ c. search needs)
     kept-front-requires
     read-dry-requires
-    (λ c. search needs)
-    (λ c κs. search needs)
-    (λ c. search needs)
+    (λ c. search needs) (λ c. search needs) (λ c. search needs)
     keep-behind-requires
     write-requires
     sub-count
     add-count
-    (λ c κs. search needs)
+    (λ c. search needs)
     mul-clear
-    (λ c κs. search needs)
+    (λ c. search needs)
     sub-t40
-    (λ c. search needs)
-    (λ c. search needs)
+    (λ c. search needs) (λ c. search needs)
     returns
-    (λ c. search needs)
-    (λ c. search needs)
+    (λ c. search needs) (λ c. search needs)
     returns-2)

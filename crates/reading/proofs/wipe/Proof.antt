@@ -1,6 +1,6 @@
 -- Zeros from 0 on are an array of zeros.
 use mathlib.Core.Path.{_∙_}
-use Rattle.directory.proofs.Final.{cleared}
+use Rattle.keeping.proofs.Final.{cleared}
 use borrow.Author.Needs.{needs}
 use Rattle.reading.proofs.wipe.Statement.{statement}
 use Rattle.reading.proofs.wipe.Tie as tie
@@ -13,4 +13,4 @@ returns c =
     (c6 .clear .ensures ∙ cleared (c10 .args .words .now), c2 .clear2 .ensures ∙ cleared (c10 .args .directory .now))
 
 pub wipe-spec : {M : Type 1} → statement M
-wipe-spec = tie.close (tie.spec (λ c κs. search needs) (λ c κs. search needs) (λ c. search needs) (λ c. search needs) returns)
+wipe-spec = tie.close (tie.spec (λ c. search needs) (λ c. search needs) (λ c. search needs) (λ c. search needs) returns)

@@ -55,12 +55,11 @@ text-asked-spec =
     Inv-loop
     μ-loop
     returns
-    (λ c κs. search needs)
+    (λ c. search needs)
     returns-2
     (λ c. refl)
     (λ c. search needs)
     returns-3
-    (λ c. search needs)
-    (λ c. search needs)
+    (λ c. search needs) (λ c. search needs)
     loop-again
     returns-4)

@@ -12,4 +12,4 @@ returns-2 c = not-addrspace (c .before .looks .ensures) (c .if1 .left)
 
 pub opt-addrspace-spec : {M : Type 1} → statement M
 opt-addrspace-spec =
-    tie.close (tie.spec (λ c κs. search needs) (λ c κs. search needs) (λ c κs. search needs) returns returns-2)
+    tie.close (tie.spec (λ c. search needs) (λ c. search needs) (λ c. search needs) returns returns-2)

@@ -3,7 +3,7 @@ use mathlib.Core.Path.{sym, _∙_}
 use native.Mathlib.Omega.{arith}
 use Rattle.lexer.proofs.Laws.{true-false, byte-yes, byte-no, call}
 use Rattle.grammar.specs.Values.{leafValues}
-use Rattle.literals.proofs.TestLaws.{prefix-yes, prefix-no}
+use Rattle.numerals.proofs.TestLaws.{prefix-yes, prefix-no}
 use Rattle.values.specs.Leaf.{keyValues}
 use Rattle.values.proofs.ValueLaws.{word-at-yes, word-at-no}
 use borrow.Author.Needs.{needs}
@@ -128,31 +128,17 @@ pub any-leaf-spec : {M : Type 1} → statement M
 any-leaf-spec =
     tie.close
     (tie.spec
-    (λ c κs. search needs)
-    (λ c κs. search needs)
-    (λ c κs. search needs)
-    (λ c. search needs)
+    (λ c. search needs) (λ c. search needs) (λ c. search needs) (λ c. search needs)
     returns
-    (λ c κs. search needs)
-    (λ c κs. search needs)
-    (λ c κs. search needs)
-    (λ c. search needs)
+    (λ c. search needs) (λ c. search needs) (λ c. search needs) (λ c. search needs)
     returns-2
-    (λ c κs. search needs)
-    (λ c. search needs)
+    (λ c. search needs) (λ c. search needs)
     returns-3
-    (λ c κs. search needs)
-    (λ c. search needs)
+    (λ c. search needs) (λ c. search needs)
     returns-4
-    (λ c. search needs)
-    (λ c κs. search needs)
-    (λ c κs. search needs)
-    (λ c. search needs)
+    (λ c. search needs) (λ c. search needs) (λ c. search needs) (λ c. search needs)
     returns-5
-    (λ c. search needs)
-    (λ c κs. search needs)
-    (λ c. search needs)
-    (λ c κs. search needs)
+    (λ c. search needs) (λ c. search needs) (λ c. search needs) (λ c. search needs)
     f0x-value-requires
     (λ c. search needs)
     returns-6

@@ -8,4 +8,4 @@ returns : tie.Need-returns
 returns c = tried-anew (c .anew .ensures) (c .before .before .before .any-leaf .ensures)
 
 pub leaf-value-spec : {M : Type 1} → statement M
-leaf-value-spec = tie.close (tie.spec (λ c κs. search needs) (λ c κs. search needs) (λ c. search needs) returns)
+leaf-value-spec = tie.close (tie.spec (λ c. search needs) (λ c. search needs) (λ c. search needs) returns)

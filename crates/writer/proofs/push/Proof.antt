@@ -12,4 +12,4 @@ returns-2 c = rw (c .before .p2 .given .1) (refl, refl)
 
 pub push-spec : {M : Type 1} → statement M
 push-spec =
-    tie.close (tie.spec (λ c. search needs) (λ c κs. search needs) (λ c. search needs) (λ c. search needs) returns returns-2)
+    tie.close (tie.spec (λ c. search needs) (λ c. search needs) (λ c. search needs) (λ c. search needs) returns returns-2)

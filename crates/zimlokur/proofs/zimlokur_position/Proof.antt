@@ -9,4 +9,4 @@ returns : tie.Need-returns
 returns c = (ap (λ (p : Position). p .line) (c .position-of .ensures), ap (λ (p : Position). p .column) (c .position-of .ensures))
 
 pub zimlokur-position-spec : {M : Type 1} → statement M
-zimlokur-position-spec = tie.close (tie.spec (λ c κs. search needs) returns)
+zimlokur-position-spec = tie.close (tie.spec (λ c. search needs) returns)

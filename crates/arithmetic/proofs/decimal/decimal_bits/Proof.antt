@@ -56,4 +56,4 @@ returns-4 c =
 pub decimal-bits-spec : {M : Type 1} → statement M
 decimal-bits-spec =
     tie.close
-    (tie.spec returns returns-2 (λ c. search needs) (λ c κs. search needs) (λ c. search needs) returns-3 returns-4)
+    (tie.spec returns returns-2 (λ c. search needs) (λ c. search needs) (λ c. search needs) returns-3 returns-4)

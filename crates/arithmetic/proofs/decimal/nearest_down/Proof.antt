@@ -54,13 +54,11 @@ pub nearest-down-spec : {M : Type 1} → statement M
 nearest-down-spec =
     tie.close
     (tie.spec
-    (λ c κs. search needs)
+    (λ c. search needs)
     div-scaled
     rem-scaled
     scaled-requires
-    (λ c. search needs)
-    (λ c. search needs)
-    (λ c. search needs)
+    (λ c. search needs) (λ c. search needs) (λ c. search needs)
     rounding-requires
     (λ c. search needs)
     returns)

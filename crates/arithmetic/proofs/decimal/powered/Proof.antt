@@ -43,12 +43,11 @@ pub powered-spec : {M : Type 1} → statement M
 powered-spec =
     tie.close
     (tie.spec
-    (λ c κs. search needs)
-    (λ c κs. search needs)
+    (λ c. search needs) (λ c. search needs)
     returns
     add-scaled-bits
-    (λ c κs. search needs)
+    (λ c. search needs)
     returns-2
     add-scaled-bits-2
-    (λ c κs. search needs)
+    (λ c. search needs)
     returns-3)

@@ -49,9 +49,9 @@ scaled-bits-spec =
     (tie.spec
     returns
     returns-2
-    (λ c κs. search needs)
+    (λ c. search needs)
     returns-3
     (λ c. search needs)
     returns-4
-    (λ c κs. search needs)
+    (λ c. search needs)
     returns-5)

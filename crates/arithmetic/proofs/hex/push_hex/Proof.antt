@@ -15,4 +15,4 @@ unfolding hexPushed
 returns-2 c = simp (le-ltb _ _ (c .if1 .left))
 
 pub push-hex-spec : {M : Type 1} → statement M
-push-hex-spec = tie.close (tie.spec (λ c. search needs) (λ c κs. search needs) (λ c. search needs) (λ c. search needs) returns returns-2)
+push-hex-spec = tie.close (tie.spec (λ c. search needs) (λ c. search needs) (λ c. search needs) (λ c. search needs) returns returns-2)

@@ -42,10 +42,9 @@ pub subnormal-spec : {M : Type 1} → statement M
 subnormal-spec =
     tie.close
     (tie.spec
-    (λ c κs. search needs)
-    sub-result
     (λ c. search needs)
-    (λ c κs. search needs)
+    sub-result
+    (λ c. search needs) (λ c. search needs)
     add-result
     cast-result
     shl-result

@@ -28,4 +28,4 @@ returns-3 c = simp (c .before .before .if1 .left) (c .carried .ensures)
 
 pub push-spec : {M : Type 1} → statement M
 push-spec =
-    tie.close (tie.spec returns (λ c. search needs) (λ c κs. search needs) (λ c. search needs) returns-2 (λ c κs. search needs) returns-3)
+    tie.close (tie.spec returns (λ c. search needs) (λ c. search needs) (λ c. search needs) returns-2 (λ c. search needs) returns-3)

@@ -47,4 +47,4 @@ returns-4 c = simp (c .before .before .if1 .left, sym (c .before .in-range .ensu
 
 pub signed-spec : {M : Type 1} → statement M
 signed-spec =
-    tie.close (tie.spec returns (λ c κs. search needs) (λ c κs. search needs) returns-2 returns-3 returns-4)
+    tie.close (tie.spec returns (λ c. search needs) (λ c. search needs) returns-2 returns-3 returns-4)

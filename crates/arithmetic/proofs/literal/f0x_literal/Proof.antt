@@ -19,4 +19,4 @@ unfolding f0xLiteral
 returns-3 c = simp (ne-eqb _ 8 (c .before .if1 .left), ne-eqb _ 16 (c .if2 .left))
 
 pub f0x-literal-spec : {M : Type 1} → statement M
-f0x-literal-spec = tie.close (tie.spec (λ c. search needs) (λ c κs. search needs) returns returns-2 returns-3)
+f0x-literal-spec = tie.close (tie.spec (λ c. search needs) (λ c. search needs) returns returns-2 returns-3)

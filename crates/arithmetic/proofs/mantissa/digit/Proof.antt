@@ -27,4 +27,4 @@ returns-4 c =
 pub digit-spec : {M : Type 1} → statement M
 digit-spec =
     tie.close
-    (tie.spec returns (λ c κs. search needs) returns-2 returns-3 (λ c κs. search needs) returns-4)
+    (tie.spec returns (λ c. search needs) returns-2 returns-3 (λ c. search needs) returns-4)

@@ -15,4 +15,4 @@ unfolding fewDigits
 returns-2 c = simp (le-ltb _ _ (c .before .if1 .left), c .too-many .ensures)
 
 pub few-spec : {M : Type 1} → statement M
-few-spec = tie.close (tie.spec returns (λ c κs. search needs) returns-2)
+few-spec = tie.close (tie.spec returns (λ c. search needs) returns-2)

@@ -40,11 +40,10 @@ pub joined-spec : {M : Type 1} → statement M
 joined-spec =
     tie.close
     (tie.spec
-    (λ c. search needs)
-    (λ c κs. search needs)
+    (λ c. search needs) (λ c. search needs)
     returns
     mul-few
-    (λ c κs. search needs)
+    (λ c. search needs)
     add-few
-    (λ c κs. search needs)
+    (λ c. search needs)
     returns-2)

@@ -41,11 +41,10 @@ pub significant-spec : {M : Type 1} → statement M
 significant-spec =
     tie.close
     (tie.spec
-    (λ c κs. search needs)
-    returns
-    (λ c κs. search needs)
-    returns-2
     (λ c. search needs)
-    (λ c κs. search needs)
+    returns
+    (λ c. search needs)
+    returns-2
+    (λ c. search needs) (λ c. search needs)
     joined-requires-2
     returns-3)

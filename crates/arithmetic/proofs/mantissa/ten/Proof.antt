@@ -15,4 +15,4 @@ returns c =
     (tens-small (c .before .args .k) (c .before .pre))
 
 pub ten-spec : {M : Type 1} → statement M
-ten-spec = tie.close (tie.spec (λ c κs. search needs) (λ c. search needs) returns)
+ten-spec = tie.close (tie.spec (λ c. search needs) (λ c. search needs) returns)

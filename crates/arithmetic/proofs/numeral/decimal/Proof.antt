@@ -38,4 +38,4 @@ returns-4 c = invalid (c .before .args .neg) (c .before .args .s) (simp (c .if1 
 
 pub decimal-spec : {M : Type 1} → statement M
 decimal-spec =
-    tie.close (tie.spec (λ c κs. search needs) returns returns-2 (λ c κs. search needs) returns-3 returns-4)
+    tie.close (tie.spec (λ c. search needs) returns returns-2 (λ c. search needs) returns-3 returns-4)

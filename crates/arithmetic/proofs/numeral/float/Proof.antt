@@ -52,4 +52,4 @@ returns-3 c = refused (c .before .before .decimal-bits .result) _ (c .before .be
 pub float-spec : {M : Type 1} → statement M
 float-spec =
     tie.close
-    (tie.spec (λ c κs. search needs) (λ c. search needs) add-t9 returns (λ c. search needs) returns-2 returns-3)
+    (tie.spec (λ c. search needs) (λ c. search needs) add-t9 returns (λ c. search needs) returns-2 returns-3)

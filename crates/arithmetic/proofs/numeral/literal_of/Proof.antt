@@ -33,9 +33,9 @@ pub literal-of-spec : {M : Type 1} → statement M
 literal-of-spec =
     tie.close
     (tie.spec
-    (λ c κs. search needs)
+    (λ c. search needs)
     returns
-    (λ c κs. search needs)
+    (λ c. search needs)
     returns-2
-    (λ c κs. search needs)
+    (λ c. search needs)
     returns-3)

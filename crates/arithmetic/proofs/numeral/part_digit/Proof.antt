@@ -10,4 +10,4 @@ unfolding partPushed
 returns c = simp (c .count-on .ensures, c .before .digit .ensures)
 
 pub part-digit-spec : {M : Type 1} → statement M
-part-digit-spec = tie.close (tie.spec (λ c κs. search needs) (λ c κs. search needs) returns)
+part-digit-spec = tie.close (tie.spec (λ c. search needs) (λ c. search needs) returns)

@@ -10,4 +10,4 @@ unfolding powerPushed
 returns c = simp (c .shift .ensures)
 
 pub power-digit-spec : {M : Type 1} → statement M
-power-digit-spec = tie.close (tie.spec (λ c κs. search needs) returns)
+power-digit-spec = tie.close (tie.spec (λ c. search needs) returns)

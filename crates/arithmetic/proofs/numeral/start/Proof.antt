@@ -10,4 +10,4 @@ unfolding started
 returns c = simp (c .before .before .nothing .ensures, c .before .no-digits .ensures, c .none .ensures)
 
 pub start-spec : {M : Type 1} → statement M
-start-spec = tie.close (tie.spec (λ c κs. search needs) (λ c κs. search needs) (λ c κs. search needs) returns)
+start-spec = tie.close (tie.spec (λ c. search needs) (λ c. search needs) (λ c. search needs) returns)

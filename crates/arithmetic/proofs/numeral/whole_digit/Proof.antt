@@ -10,4 +10,4 @@ unfolding wholePushed
 returns c = simp (c .before .push .ensures, c .digit .ensures)
 
 pub whole-digit-spec : {M : Type 1} → statement M
-whole-digit-spec = tie.close (tie.spec (λ c κs. search needs) (λ c κs. search needs) returns)
+whole-digit-spec = tie.close (tie.spec (λ c. search needs) (λ c. search needs) returns)

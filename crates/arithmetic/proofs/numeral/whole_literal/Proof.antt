@@ -47,4 +47,4 @@ returns-3 c = empty (c .before .args .neg) (c .before .args .s) (c .if1 .left)
 
 pub whole-literal-spec : {M : Type 1} → statement M
 whole-literal-spec =
-    tie.close (tie.spec (λ c κs. search needs) (λ c. search needs) (λ c. search needs) returns returns-2 returns-3)
+    tie.close (tie.spec (λ c. search needs) (λ c. search needs) (λ c. search needs) returns returns-2 returns-3)

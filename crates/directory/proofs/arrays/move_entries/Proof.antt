@@ -21,11 +21,7 @@ pub move-entries-spec : {M : Type 1} → statement M
 move-entries-spec =
     tie.close
     (tie.spec
-    (λ c. search needs)
-    (λ c. search needs)
-    (λ c. search needs)
-    (λ c. search needs)
-    (λ c κs. search needs)
+    (λ c. search needs) (λ c. search needs) (λ c. search needs) (λ c. search needs) (λ c. search needs)
     renumber-requires
     (λ c. search needs)
     returns)

@@ -13,4 +13,4 @@ returns c =
     (g-rank-any _ _ _ (c .match-rank .ensures) (λ h. g-done) (λ h. g-done))
 
 pub skip-one-spec : {M : Type 1} → statement M
-skip-one-spec = tie.close (tie.spec (λ c κs. search needs) (λ c κs. search needs) returns)
+skip-one-spec = tie.close (tie.spec (λ c. search needs) (λ c. search needs) returns)

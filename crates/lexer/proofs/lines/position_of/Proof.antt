@@ -51,7 +51,6 @@ position-of-spec =
     (λ c. search needs)
     add-line
     add-column
-    (λ c. search needs)
-    (λ c. search needs)
+    (λ c. search needs) (λ c. search needs)
     loop-again
     returns-2)

@@ -12,4 +12,4 @@ returns-2 : tie.Need-returns-2
 returns-2 c = c .refuse .ensures ∙ sym (rw (le-ltb _ _ (c .before .if1 .left)))
 
 pub count-child-spec : {M : Type 1} → statement M
-count-child-spec = tie.close (tie.spec returns (λ c κs. search needs) returns-2)
+count-child-spec = tie.close (tie.spec returns (λ c. search needs) returns-2)

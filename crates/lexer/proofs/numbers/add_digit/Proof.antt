@@ -11,4 +11,4 @@ returns-2 : tie.Need-returns-2
 returns-2 c = add-some _ _ _ _ (c .before .before .if1 .left) (c .before .class .ensures) (c .shift .ensures)
 
 pub add-digit-spec : {M : Type 1} → statement M
-add-digit-spec = tie.close (tie.spec returns (λ c κs. search needs) (λ c κs. search needs) returns-2)
+add-digit-spec = tie.close (tie.spec returns (λ c. search needs) (λ c. search needs) returns-2)

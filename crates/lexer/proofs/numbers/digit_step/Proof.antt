@@ -29,4 +29,4 @@ returns-4 c =
     (← c .before .before .class .ensures, le-ltb _ _ (c .before .if1 .left), ne-eqb _ _ (c .if2 .left))
 
 pub digit-step-spec : {M : Type 1} → statement M
-digit-step-spec = tie.close (tie.spec (λ c κs. search needs) returns returns-2 returns-3 returns-4)
+digit-step-spec = tie.close (tie.spec (λ c. search needs) returns returns-2 returns-3 returns-4)

@@ -2,7 +2,7 @@
 use native.Mathlib.Omega.{arith}
 use borrow.Author.Needs.{needs}
 use Rattle.lexer.proofs.Laws.{call}
-use Rattle.literals.proofs.TestLaws.{prefix-yes, prefix-no}
+use Rattle.numerals.proofs.TestLaws.{prefix-yes, prefix-no}
 use Rattle.literals.proofs.constants.minus_value.Statement.{statement}
 use Rattle.literals.proofs.constants.minus_value.Tie as tie
 
@@ -21,13 +21,7 @@ pub minus-value-spec : {M : Type 1} → statement M
 minus-value-spec =
     tie.close
     (tie.spec
-    (λ c. search needs)
-    (λ c κs. search needs)
-    (λ c. search needs)
-    (λ c κs. search needs)
-    (λ c κs. search needs)
-    (λ c. search needs)
+    (λ c. search needs) (λ c. search needs) (λ c. search needs) (λ c. search needs) (λ c. search needs) (λ c. search needs)
     returns
-    (λ c κs. search needs)
-    (λ c. search needs)
+    (λ c. search needs) (λ c. search needs)
     returns-2)

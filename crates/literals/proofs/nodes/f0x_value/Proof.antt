@@ -12,4 +12,4 @@ returns c =
     (call 2 (omega arith) (c .before .before .float-node .ensures _))
 
 pub f0x-value-spec : {M : Type 1} → statement M
-f0x-value-spec = tie.close (tie.spec (λ c κs. search needs) (λ c κs. search needs) (λ c. search needs) returns)
+f0x-value-spec = tie.close (tie.spec (λ c. search needs) (λ c. search needs) (λ c. search needs) returns)

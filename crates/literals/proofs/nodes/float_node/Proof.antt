@@ -14,4 +14,4 @@ returns c =
     (push-then _ (c .before .before .push2 .ensures) done)
 
 pub float-node-spec : {M : Type 1} → statement M
-float-node-spec = tie.close (tie.spec (λ c κs. search needs) (λ c κs. search needs) (λ c. search needs) returns)
+float-node-spec = tie.close (tie.spec (λ c. search needs) (λ c. search needs) (λ c. search needs) returns)

@@ -13,4 +13,4 @@ returns c =
 
 pub hex-value-spec : {M : Type 1} → statement M
 hex-value-spec =
-    tie.close (tie.spec (λ c κs. search needs) (λ c κs. search needs) (λ c. search needs) returns)
+    tie.close (tie.spec (λ c. search needs) (λ c. search needs) (λ c. search needs) returns)

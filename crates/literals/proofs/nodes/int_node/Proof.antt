@@ -16,4 +16,4 @@ returns c =
 
 pub int-node-spec : {M : Type 1} → statement M
 int-node-spec =
-    tie.close (tie.spec (λ c κs. search needs) (λ c κs. search needs) (λ c κs. search needs) (λ c. search needs) returns)
+    tie.close (tie.spec (λ c. search needs) (λ c. search needs) (λ c. search needs) (λ c. search needs) returns)

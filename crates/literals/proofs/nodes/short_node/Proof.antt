@@ -2,7 +2,7 @@
 use mathlib.Core.Logic.{⊎-elim}
 use native.Mathlib.Omega.{arith}
 use borrow.Author.Needs.{needs}
-use Rattle.literals.proofs.NumeralLaws.{halves-minus, halves-plus, halves-zero}
+use Rattle.numerals.proofs.NumeralLaws.{halves-minus, halves-plus, halves-zero}
 use Rattle.literals.proofs.nodes.short_node.Statement.{statement}
 use Rattle.literals.proofs.nodes.short_node.Tie as tie
 
@@ -16,11 +16,7 @@ pub short-node-spec : {M : Type 1} → statement M
 short-node-spec =
     tie.close
     (tie.spec
-    (λ c. search needs)
-    (λ c. search needs)
-    (λ c κs. search needs)
-    (λ c. search needs)
+    (λ c. search needs) (λ c. search needs) (λ c. search needs) (λ c. search needs)
     returns
-    (λ c κs. search needs)
-    (λ c. search needs)
+    (λ c. search needs) (λ c. search needs)
     returns-2)

@@ -10,4 +10,4 @@ returns-2 : tie.Need-returns-2
 returns-2 c = rw (c .before .if1 .left) (c .quote-step .ensures)
 
 pub string-step-spec : {M : Type 1} → statement M
-string-step-spec = tie.close (tie.spec (λ c κs. search needs) returns (λ c κs. search needs) returns-2)
+string-step-spec = tie.close (tie.spec (λ c. search needs) returns (λ c. search needs) returns-2)

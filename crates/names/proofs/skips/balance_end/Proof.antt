@@ -52,8 +52,6 @@ balance-end-spec =
     (λ c. search needs)
     add-q
     returns
-    (λ c. search needs)
-    (λ c. search needs)
-    (λ c. search needs)
+    (λ c. search needs) (λ c. search needs) (λ c. search needs)
     loop-again
     returns-2)

@@ -61,16 +61,13 @@ pub cstring-spec : {M : Type 1} → statement M
 cstring-spec =
     tie.close
     (tie.spec
-    (λ c. search needs)
-    (λ c κs. search needs)
-    (λ c κs. search needs)
-    (λ c κs. search needs)
+    (λ c. search needs) (λ c. search needs) (λ c. search needs) (λ c. search needs)
     add-pack-word
-    (λ c κs. search needs)
+    (λ c. search needs)
     add-t18
     returns
     returns-2
-    (λ c κs. search needs)
+    (λ c. search needs)
     returns-3
     (λ c. search needs)
     returns-4

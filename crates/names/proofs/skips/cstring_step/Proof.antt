@@ -53,9 +53,9 @@ cstring-step-spec =
     returns
     returns-2
     returns-3
-    (λ c κs. search needs)
+    (λ c. search needs)
     returns-4
     returns-5
-    (λ c κs. search needs)
+    (λ c. search needs)
     returns-6
     returns-7)

@@ -6,9 +6,9 @@ use lib.ListN.{length}
 use Rattle.theorem_edits.specs.Law.{commonEnd-le}
 use Rattle.records.specs.Pieces.{refused}
 use Rattle.texts.specs.Verdicts.{verdict}
-use Rattle.directory.specs.Answers.{Joins}
+use Rattle.keeping.specs.Answers.{Joins}
 use Rattle.directory.specs.Olds.{oldsOf, JoinsAt, JoinsNot}
-use Rattle.directory.proofs.Judge.{fitting}
+use Rattle.keeping.proofs.Judge.{fitting}
 use Rattle.passes.specs.Parts.{Asked}
 use Rattle.passes.proofs.Dry.{took-inside, took-passed, took-size, took-room, took-more, took-refused, took-keep}
 use borrow.Author.Needs.{needs}
@@ -122,16 +122,12 @@ follow-spec =
     (tie.spec
     add-end
     ask-requires
-    (λ c. search needs)
-    (λ c. search needs)
+    (λ c. search needs) (λ c. search needs)
     join-old-requires
-    (λ c. search needs)
-    (λ c. search needs)
-    (λ c. search needs)
+    (λ c. search needs) (λ c. search needs) (λ c. search needs)
     add-t26
     room-kept-requires
-    (λ c. search needs)
-    (λ c. search needs)
+    (λ c. search needs) (λ c. search needs)
     returns
     returns-2
     returns-3

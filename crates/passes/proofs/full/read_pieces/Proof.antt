@@ -3,7 +3,7 @@ use mathlib.Core.Path.{refl, subst}
 use Prim.Native.Nat.{_+_}
 use native.Mathlib.Omega.{arith}
 use lib.ListN.{length}
-use Rattle.directory.proofs.Judge.{fitting}
+use Rattle.keeping.proofs.Judge.{fitting}
 use Rattle.passes.specs.Parts.{HeadIn, Asked}
 use Rattle.passes.proofs.Whole.{no-head, head-inside, head-room, head-come, come-own, ended-as}
 use borrow.Author.Needs.{needs}
@@ -98,13 +98,9 @@ pub read-pieces-spec : {M : Type 1} → statement M
 read-pieces-spec =
     tie.close
     (tie.spec
-    (λ c κs. search needs)
-    (λ c. search needs)
-    (λ c. search needs)
-    (λ c. search needs)
+    (λ c. search needs) (λ c. search needs) (λ c. search needs) (λ c. search needs)
     ask-requires
-    (λ c. search needs)
-    (λ c. search needs)
+    (λ c. search needs) (λ c. search needs)
     put-entry-requires
     read-blocks-requires
     (λ c. search needs)
@@ -113,6 +109,5 @@ read-pieces-spec =
     returns-2
     (λ c. search needs)
     returns-3
-    (λ c. search needs)
-    (λ c. search needs)
+    (λ c. search needs) (λ c. search needs)
     returns-4)

@@ -15,4 +15,4 @@ returns-2 c =
     block-later (c4 .args .text .now) (c4 .args .spot .number) (c4 .args .spot .pos) (c .block-dry .result) (c .before .if1 .left) (c4 .pre .1 .0 .1) (c .block-dry .ensures)
 
 pub piece-dry-spec : {M : Type 1} → statement M
-piece-dry-spec = tie.close (tie.spec (λ c κs. search needs) returns (λ c κs. search needs) returns-2)
+piece-dry-spec = tie.close (tie.spec (λ c. search needs) returns (λ c. search needs) returns-2)

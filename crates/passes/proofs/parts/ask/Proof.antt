@@ -1,8 +1,8 @@
 -- The answer is the room's, and a refusal's place is the piece's end.
 use mathlib.Core.Path.{sym, ap, _∙_}
 use Prim.Native.Nat.{_+_}
-use Rattle.directory.specs.Answers.{afterRoom}
-use Rattle.directory.specs.declared.rooms.Room.{Room}
+use Rattle.keeping.specs.Answers.{afterRoom}
+use Rattle.keeping.specs.declared.rooms.Room.{Room}
 use borrow.Author.Needs.{needs}
 use Rattle.passes.proofs.parts.ask.Statement.{statement}
 use Rattle.passes.proofs.parts.ask.Tie as tie
@@ -26,11 +26,7 @@ pub ask-spec : {M : Type 1} → statement M
 ask-spec =
     tie.close
     (tie.spec
-    (λ c. search needs)
-    (λ c κs. search needs)
-    (λ c. search needs)
-    (λ c. search needs)
-    (λ c. search needs)
+    (λ c. search needs) (λ c. search needs) (λ c. search needs) (λ c. search needs) (λ c. search needs)
     returns
     returns-2
     returns-3)

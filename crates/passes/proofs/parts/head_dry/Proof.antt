@@ -9,4 +9,4 @@ returns : tie.Need-returns
 returns c = head-dry (c .before .before .before .before .args .text .now) refl (c .before .parse-head .ensures .0)
 
 pub head-dry-spec : {M : Type 1} → statement M
-head-dry-spec = tie.close (tie.spec (λ c. search needs) (λ c κs. search needs) returns)
+head-dry-spec = tie.close (tie.spec (λ c. search needs) (λ c. search needs) returns)

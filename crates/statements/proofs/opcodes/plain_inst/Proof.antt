@@ -67,7 +67,7 @@ plain-inst-spec =
     parse-tail-call-requires
     same-length
     returns
-    (λ c κs. search needs)
+    (λ c. search needs)
     returns-2
     parse-store-requires
     parse-fence-requires

@@ -31,8 +31,7 @@ pub statement-rank-spec : {M : Type 1} → statement M
 statement-rank-spec =
     tie.close
     (tie.spec
-    (λ c. search needs)
-    (λ c. search needs)
+    (λ c. search needs) (λ c. search needs)
     likely-statement-requires
     (λ c. search needs)
     likely-statement-requires-2
@@ -42,12 +41,6 @@ statement-rank-spec =
     likely-statement-requires-4
     (λ c. search needs)
     likely-statement-requires-5
-    (λ c κs. search needs)
+    (λ c. search needs) (λ c. search needs) (λ c. search needs) (λ c. search needs) (λ c. search needs) (λ c. search needs) (λ c. search needs)
     (λ c. search needs)
-    (λ c. search needs)
-    (λ c. search needs)
-    (λ c. search needs)
-    (λ c. search needs)
-    (λ c. search needs)
-    (λ c κs. search needs)
     (λ c. search needs))

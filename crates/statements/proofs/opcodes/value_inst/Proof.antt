@@ -227,7 +227,7 @@ value-inst-spec =
     parse-tail-call-requires
     same-length-5
     returns-5
-    (λ c κs. search needs)
+    (λ c. search needs)
     returns-6
     parse-icmp-requires
     parse-fcmp-requires
@@ -239,7 +239,7 @@ value-inst-spec =
     parse-freeze-requires
     parse-call-requires
     parse-cmpxchg-requires
-    (λ c κs. search needs)
+    (λ c. search needs)
     parse-extractvalue-requires
     same-length-6
     returns-7

@@ -79,21 +79,16 @@ switch-labels-spec =
     μ-loop
     loop-holds
     eat-ws-requires
-    (λ c κs. search needs)
-    (λ c κs. search needs)
+    (λ c. search needs) (λ c. search needs)
     same-length
     returns
     case-int-requires
     target-requires
-    (λ c κs. search needs)
-    (λ c κs. search needs)
+    (λ c. search needs) (λ c. search needs)
     same-length-2
     returns-2
-    (λ c κs. search needs)
-    (λ c. search needs)
-    (λ c κs. search needs)
-    (λ c. search needs)
+    (λ c. search needs) (λ c. search needs) (λ c. search needs) (λ c. search needs)
     loop-again
-    (λ c κs. search needs)
+    (λ c. search needs)
     same-length-3
     returns-3)

@@ -1,0 +1,4 @@
+pub mod TestLaws
+pub mod ScanLaws
+pub mod NumeralLaws
+pub mod HexLaws

@@ -1,0 +1,202 @@
+-- A scan and its fold, byte by byte: both go one byte on together, so where the scan stops the fold is that of all bytes passed.
+-- Assumes nothing.
+use mathlib.Core.Path.{_≡_, refl, sym, ap, _∙_}
+use mathlib.Core.List.{List, [], _∷_}
+use mathlib.Core.Bool.{Bool, true, false}
+use mathlib.Core.Option.{Option, none, some}
+use Prim.Native.Nat.{ℕ, _+_, _*_, _≤_, _<_}
+use native.Mathlib.Omega.{arith}
+use lib.Dec.{eqb}
+use lib.ListN.{length, getD, drop, drop-of-length-le, length-drop}
+use lib.Seq.{length-take-le}
+use borrow.Author.Tests.{eq-eqb, ne-eqb, lt-ltb, le-ltb, lt-leb}
+use Rattle.program.specs.Choice.{pick}
+use Rattle.program.specs.Class.{classOf, isDigit, isHex, isName}
+use Rattle.program.specs.Prog.{ret, run, ok, scanLen, byteAt}
+use Rattle.program.specs.Local.{scanLen-le}
+use Rattle.grammar.specs.Numbers.{digitStep, valueOf, hexStep, digits}
+use Rattle.lexer.specs.Step.{taken}
+use Rattle.lexer.specs.declared.Cursor.{Cursor}
+use Rattle.lexer.specs.declared.Parsed.the-variants.{Ok, Refused}
+use Rattle.lexer.proofs.Scan.{drop-next, scan-some}
+use Rattle.lexer.proofs.Laws.{given, kept, scan-run, true-false}
+use Rattle.arithmetic.specs.Folds.{folded, allDigits, begins}
+use Rattle.arithmetic.specs.Hex.{hexFolded, hexPushed}
+use Rattle.arithmetic.specs.declared.hex.Hex.{Hex}
+use Rattle.arithmetic.specs.declared.numeral.Fold.{Fold}
+use Rattle.arithmetic.proofs.Scans.{digits-all, digits-begin}
+use Rattle.numerals.specs.Scans.{pushedIn, DigitsAt, ShortAt}
+use Rattle.numerals.specs.declared.Part.{Part}
+
+-- what an automaton passes from `at` on ends at i, and g folds it from s0 to s
+pub record FoldsTo {S : Type 0} (f : ℕ → ℕ → Option ℕ) (g : S → List ℕ → S) (text : List ℕ) (at : ℕ) (s0 : S) (i : ℕ) (s : S) : Type 0 where
+  pub place : i ≡ at + scanLen f 0 (drop at text)
+  pub state : s ≡ g s0 (taken f 0 (drop at text))
+
+-- the scan from `at` goes on from i in state q, and its fold from s
+pub record Folding {S : Type 0} (f : ℕ → ℕ → Option ℕ) (g : S → List ℕ → S) (text : List ℕ) (at : ℕ) (s0 : S) (i q : ℕ) (s : S) : Type 0 where
+  pub place : at + scanLen f 0 (drop at text) ≡ i + scanLen f q (drop i text)
+  pub state : g s0 (taken f 0 (drop at text)) ≡ g s (taken f q (drop i text))
+
+module _ {S : Type 0} (f : ℕ → ℕ → Option ℕ) (g : S → List ℕ → S) (text : List ℕ) (at : ℕ) (s0 : S) where
+  pub folding-start : Folding f g text at s0 at 0 s0
+  folding-start = record { place = refl; state = refl }
+
+  module _ (i q : ℕ) (s : S) (a : Folding f g text at s0 i q s) where
+    taken-none : scanLen f q (drop i text) ≡ 0 → taken f q (drop i text) ≡ []
+    taken-none e = rw e
+
+    ended : g s [] ≡ s → scanLen f q (drop i text) ≡ 0 → FoldsTo f g text at s0 i s
+    ended n e = record { place = omega (arith, a .place); state = sym (a .state ∙ ap (g s) (taken-none e) ∙ n) }
+
+    -- the text ends, or the automaton stops
+    pub folding-out : g s [] ≡ s → length text ≤ i → FoldsTo f g text at s0 i s
+    unfolding scanLen
+    folding-out n h = ended n (rw (drop-of-length-le text h))
+
+    pub folding-stop : g s [] ≡ s → i < length text → f q (getD text i 0) ≡ none → FoldsTo f g text at s0 i s
+    unfolding scanLen
+    folding-stop n h e = ended n (rw (drop-next text i h, scanLen, e))
+
+    -- a byte more
+    pub folding-more : (r : ℕ) (t : S) → ((l : List ℕ) → g s (getD text i 0 ∷ l) ≡ g t l) → i < length text → f q (getD text i 0) ≡ some r → Folding f g text at s0 (i + 1) r t
+    unfolding scanLen
+    folding-more r t n h e = record {
+      place = a .place ∙ scan-some f text i q r h e;
+      state = a .state ∙ ap (g s) (rw (drop-next text i h, scanLen, e)) ∙ n (taken f r (drop (i + 1) text));
+    }
+
+-- ---- digits: d is the class of the byte at i
+no-score : isDigit 95 ≡ false
+unfolding isDigit classOf
+no-score = refl
+
+digital : (x d : ℕ) → d ≡ classOf x → d < 10 → isDigit x ≡ true
+unfolding isDigit
+digital x d e h = rw (← e, lt-ltb _ _ h)
+
+other : (x d : ℕ) → d ≡ classOf x → 10 ≤ d → isDigit x ≡ false
+unfolding isDigit
+other x d e h = rw (← e, le-ltb _ _ h)
+
+step-digit : (q x : ℕ) → isDigit x ≡ true → digitStep q x ≡ some 1
+unfolding digitStep
+step-digit q x e = rw e
+
+step-score : (q x : ℕ) → isDigit x ≡ false → x ≡ 95 → (q ≡ 0 → ⊥) → digitStep q x ≡ some 1
+unfolding digitStep
+step-score q x e s n = rw (e, eq-eqb _ _ s, ne-eqb _ _ n)
+
+step-first : (q x : ℕ) → isDigit x ≡ false → q ≡ 0 → digitStep q x ≡ none
+unfolding digitStep
+step-first q x e n = rw (e, eq-eqb _ _ n) (go (eqb x 95))
+  where
+    go : (b : Bool) → pick b (pick {A = Option ℕ} true none (some 1)) none ≡ none
+    go true = refl
+    go false = refl
+
+step-stop : (q x : ℕ) → isDigit x ≡ false → (x ≡ 95 → ⊥) → digitStep q x ≡ none
+unfolding digitStep
+step-stop q x e n = rw (e, ne-eqb _ _ n)
+
+module _ (part : Part) {text : List ℕ} {at : ℕ} {s0 : Fold} {i q : ℕ} {s : Fold} where
+  pub digit-out : Folding digitStep (folded (pushedIn part)) text at s0 i q s → length text ≤ i → FoldsTo digitStep (folded (pushedIn part)) text at s0 i s
+  unfolding folded
+  digit-out a h = folding-out digitStep (folded (pushedIn part)) text at s0 i q s a refl h
+
+  module _ {d : ℕ} (a : Folding digitStep (folded (pushedIn part)) text at s0 i q s) (h : i < length text) (e : d ≡ classOf (getD text i 0)) where
+    pub digit-more : {t : Fold} → d < 10 → t ≡ pushedIn part s d → Folding digitStep (folded (pushedIn part)) text at s0 (i + 1) 1 t
+    unfolding folded
+    digit-more {t} k n =
+        let z : isDigit (getD text i 0) ≡ true = digital _ d e k in
+        let o : (getD text i 0 ≡ 95 → ⊥) = λ u. true-false (sym no-score ∙ (rw u at z)) in
+        folding-more digitStep (folded (pushedIn part)) text at s0 i q s a 1 t (λ l. rw (ne-eqb _ _ o, ← e, ← n)) h (step-digit q _ z)
+
+    pub digit-score : 10 ≤ d → getD text i 0 ≡ 95 → (q ≡ 0 → ⊥) → Folding digitStep (folded (pushedIn part)) text at s0 (i + 1) 1 s
+    unfolding folded
+    digit-score k x n = folding-more digitStep (folded (pushedIn part)) text at s0 i q s a 1 s (λ l. rw (eq-eqb _ _ x)) h (step-score q _ (other _ d e k) x n)
+
+    pub digit-stop : 10 ≤ d → (getD text i 0 ≡ 95 → ⊥) → FoldsTo digitStep (folded (pushedIn part)) text at s0 i s
+    unfolding folded
+    digit-stop k x = folding-stop digitStep (folded (pushedIn part)) text at s0 i q s a refl h (step-stop q _ (other _ d e k) x)
+
+    pub digit-none : 10 ≤ d → q ≡ 0 → FoldsTo digitStep (folded (pushedIn part)) text at s0 i s
+    unfolding folded
+    digit-none k n = folding-stop digitStep (folded (pushedIn part)) text at s0 i q s a refl h (step-first q _ (other _ d e k) n)
+
+-- ---- digits alone, and their value: the scan goes on from i in some state, and its value from v
+pub record Summing (text : List ℕ) (at i v : ℕ) : Type 0 where
+  pub q : ℕ
+  pub going : Folding digitStep valueOf text at 0 i q v
+
+-- `_` is a byte of a name, and the text's end is none
+score-named : 18 ≤ classOf 95 → ⊥
+unfolding classOf
+score-named h = omega arith
+
+name-out : (text : List ℕ) (i : ℕ) → length text ≤ i → isName (byteAt (drop i text)) ≡ false
+unfolding isName byteAt classOf
+name-out text i h = rw (drop-of-length-le text h)
+
+name-none : (text : List ℕ) (i d : ℕ) → i < length text → d ≡ classOf (getD text i 0) → 18 ≤ d → isName (byteAt (drop i text)) ≡ false
+unfolding isName byteAt
+name-none text i d h e k = rw (drop-next text i h, ← e, lt-leb _ _ k)
+
+pub short-start : (text : List ℕ) (at : ℕ) → Summing text at at 0
+short-start text at = record { q = 0; going = folding-start digitStep valueOf text at 0 }
+
+module _ {text : List ℕ} {at i v : ℕ} (a : Summing text at i v) where
+  pub short-out : length text ≤ i → at < i → ShortAt text at i v
+  unfolding valueOf
+  short-out h k =
+      let f : FoldsTo digitStep valueOf text at 0 i v = folding-out digitStep valueOf text at 0 i (a .q) v (a .going) refl h in
+      record { some = k; place = f .place; value = f .state; ends = name-out text i h }
+
+  module _ {d : ℕ} (h : i < length text) (e : d ≡ classOf (getD text i 0)) where
+    pub short-more : {u : ℕ} → d < 10 → u ≡ v * 10 + d → Summing text at (i + 1) u
+    unfolding valueOf
+    short-more {u} k n =
+        let z : isDigit (getD text i 0) ≡ true = digital _ d e (omega arith) in
+        let o : (getD text i 0 ≡ 95 → ⊥) = λ x. true-false (sym no-score ∙ (rw x at z)) in
+        record { q = 1; going = folding-more digitStep valueOf text at 0 i (a .q) v (a .going) 1 u (λ l. rw (ne-eqb _ _ o, ← e, ← n)) h (step-digit (a .q) _ z) }
+
+    pub short-stop : 18 ≤ d → at < i → ShortAt text at i v
+    unfolding valueOf
+    short-stop k m =
+        let o : (getD text i 0 ≡ 95 → ⊥) = λ x. score-named (rw (← x, ← e) k) in
+        let f : FoldsTo digitStep valueOf text at 0 i v = folding-stop digitStep valueOf text at 0 i (a .q) v (a .going) refl h (step-stop (a .q) _ (other _ d e (omega arith)) o) in
+        record { some = m; place = f .place; value = f .state; ends = name-none text i d h e k }
+
+-- ---- hex digits
+module _ {text : List ℕ} {at : ℕ} {s0 : Hex} {i : ℕ} {s : Hex} where
+  pub hex-out : Folding hexStep hexFolded text at s0 i 0 s → length text ≤ i → FoldsTo hexStep hexFolded text at s0 i s
+  unfolding hexFolded
+  hex-out a h = folding-out hexStep hexFolded text at s0 i 0 s a refl h
+
+  module _ {d : ℕ} (a : Folding hexStep hexFolded text at s0 i 0 s) (h : i < length text) (e : d ≡ classOf (getD text i 0)) where
+    pub hex-more : {t : Hex} → d < 16 → t ≡ hexPushed s d → Folding hexStep hexFolded text at s0 (i + 1) 0 t
+    unfolding hexFolded hexStep isHex
+    hex-more {t} k n = folding-more hexStep hexFolded text at s0 i 0 s a 0 t (λ l. rw (← e, ← n)) h (rw (← e, lt-ltb _ _ k))
+
+    pub hex-stop : 16 ≤ d → FoldsTo hexStep hexFolded text at s0 i s
+    unfolding hexFolded hexStep isHex
+    hex-stop k = folding-stop hexStep hexFolded text at s0 i 0 s a refl h (rw (← e, le-ltb _ _ k))
+
+-- ---- the digits at the cursor
+pub digits-run : (text : List ℕ) (at i : ℕ) → i ≡ at + scanLen digitStep 0 (drop at text) → run digits at (drop at text) ≡ ok (taken digitStep 0 (drop at text)) i
+unfolding digits run
+digits-run text at i e = scan-run digitStep 0 ret text at ∙ ap (ok (taken digitStep 0 (drop at text))) (sym e)
+
+pub digits-here : {part : Part} {s0 : Fold} {text : List ℕ} {i : ℕ} {s : Fold} (cur : Cursor) → FoldsTo digitStep (folded (pushedIn part)) text (cur .at) s0 i s → DigitsAt part s0 text (Ok cur) (Ok (record { at = i; w = cur .w })) s
+digits-here {part} {s0} {text} {i} cur a = record {
+  run = taken digitStep 0 (drop (cur .at) text);
+  gives = given cur i (λ x. digits-run text (cur .at) i (a .place));
+  state = a .state;
+  all = digits-all 0 (drop (cur .at) text);
+  begun = digits-begin (drop (cur .at) text);
+  few = omega (arith, length-take-le (scanLen digitStep 0 (drop (cur .at) text)) (drop (cur .at) text) (scanLen-le digitStep 0 (drop (cur .at) text)), scanLen-le digitStep 0 (drop (cur .at) text), length-drop (cur .at) text);
+}
+
+pub digits-kept : {part : Part} {s0 : Fold} {text : List ℕ} (e q : ℕ) → DigitsAt part s0 text (Refused e q) (Refused e q) s0
+unfolding folded allDigits begins
+digits-kept e q = record { run = []; gives = kept e q; state = refl; all = refl; begun = refl; few = omega arith }

@@ -1,0 +1,47 @@
+// Numerals in a text (`read_numeric`, `parse_hex_float`): digits are folded as they are scanned. 01: "Types and values", questions 7 and 17.
+pub mod reads; // reads.rt: numerals and the bits of floats
+pub mod scans; // scans.rt: digits, folded
+pub mod tests; // tests.rt: what stands at the cursor
+
+use arithmetic::hex::Hex;
+use arithmetic::literal::Literal;
+use arithmetic::numeral::Fold;
+use lexer::Parsed;
+
+// A literal and where the reader is behind it. Where it is refused, so is the reader.
+pub struct Lit {
+    pub p: Parsed,
+    pub lit: Literal,
+}
+
+// Digits before the point, behind it, of the exponent.
+pub enum Part {
+    Whole,
+    Behind,
+    Power,
+}
+
+// Where the reader is, and the numeral's state.
+pub struct Folded {
+    pub p: Parsed,
+    pub s: Fold,
+}
+
+// Where a run of digits ends, its value, and whether it is a numeral by itself.
+pub struct Short {
+    pub at: usize,
+    pub v: u64,
+    pub is: bool,
+}
+
+// Where the reader is behind hex digits, and what they fold to.
+pub struct HexFolded {
+    pub p: Parsed,
+    pub h: Hex,
+}
+
+// Where the reader is, and whether it passed a minus.
+pub struct Sign {
+    pub p: Parsed,
+    pub down: bool,
+}

@@ -1,0 +1,148 @@
+// Numerals behind their sign (`read_numeric`), and the bits of floats (`parse_hex_float`).
+use crate::Folded;
+use crate::Lit;
+use crate::Part;
+use crate::Sign;
+use crate::scans::digits;
+use crate::scans::hex_digits;
+use arithmetic::literal::Literal;
+use arithmetic::literal::f0x_literal;
+use arithmetic::literal::hex_literal;
+use arithmetic::numeral::Fold;
+use arithmetic::numeral::literal_of;
+use arithmetic::numeral::pass_exponent;
+use arithmetic::numeral::pass_point;
+use arithmetic::numeral::start;
+use lexer::Num;
+use lexer::Parsed;
+use lexer::looks;
+use lexer::pass;
+use lexer::refuse;
+ghost use mathlib.Core.List.{List};
+ghost use Prim.Native.Nat.{ℕ};
+ghost use Rattle.grammar.specs.Numbers.{readSign, parseHexFloat, parseF0x};
+ghost use Rattle.lexer.specs.Table.{Classes};
+ghost use Rattle.lexer.specs.Reads.{Gives};
+ghost use Rattle.numerals.specs.Reads.{PowerAt, TailAt, NumeralAt, LitAt, bitsIn};
+
+// `+`, `-` or nothing: is it a minus?
+fn read_sign(text: &[u8], p: Parsed) -> Sign
+    ensures { λ r. ⌜ Gives readSign (r .down) (now (text .entry)) p (r .p) ⌝ }
+{
+    if looks(text, p, b'+') {
+        let q = pass(text, p, 1);
+        return Sign { p: q, down: false };
+    }
+    if looks(text, p, b'-') {
+        let q = pass(text, p, 1);
+        return Sign { p: q, down: true };
+    }
+    Sign { p, down: false }
+}
+
+// An exponent behind its `e`.
+fn read_exponent(classes: &[u8; 256], text: &[u8], p: Parsed, s: Fold) -> Folded
+    requires { ⌜ Classes (now classes) ⌝ }
+    ensures { λ r. ⌜ PowerAt s (now (text .entry)) p (r .p) (r .s) ⌝ }
+{
+    let x = read_sign(text, p);
+    let q = x.p;
+    let t = pass_exponent(s, x.down);
+    digits(classes, text, q, t, Part::Power)
+}
+
+// An exponent, if there is one.
+fn behind_point(classes: &[u8; 256], text: &[u8], p: Parsed, s: Fold) -> Folded
+    requires { ⌜ Classes (now classes) ⌝ }
+    ensures { λ r. ⌜ TailAt s (now (text .entry)) p (r .p) (r .s) ⌝ }
+{
+    if looks(text, p, b'e') {
+        let q = pass(text, p, 1);
+        return read_exponent(classes, text, q, s);
+    }
+    if looks(text, p, b'E') {
+        let q = pass(text, p, 1);
+        return read_exponent(classes, text, q, s);
+    }
+    Folded { p, s }
+}
+
+// A numeral behind its sign, as its state.
+fn read_numeric(classes: &[u8; 256], text: &[u8], p: Parsed) -> Folded
+    requires { ⌜ Classes (now classes) ⌝ }
+    ensures { λ r. ⌜ NumeralAt (now (text .entry)) p (r .p) (r .s) ⌝ }
+{
+    let s0 = start();
+    let a = digits(classes, text, p, s0, Part::Whole);
+    let q = a.p;
+    let s = a.s;
+    if looks(text, q, b'.') {
+        let r = pass(text, q, 1);
+        let s2 = pass_point(s);
+        let b = digits(classes, text, r, s2, Part::Behind);
+        let r1 = b.p;
+        let s3 = b.s;
+        return behind_point(classes, text, r1, s3);
+    }
+    behind_point(classes, text, q, s)
+}
+
+// A numeral behind its sign, as its literal; questions 7 and 17 behind it.
+pub fn parse_numeral(classes: &[u8; 256], text: &[u8], p: Parsed, neg: bool) -> Lit
+    requires { ⌜ Classes (now classes) ⌝ }
+    ensures { λ r. ⌜ LitAt neg (now (text .entry)) p r ⌝ }
+{
+    let n = read_numeric(classes, text, p);
+    let q = n.p;
+    let s = n.s;
+    let lit = literal_of(s, neg);
+    match lit {
+        Literal::Int(h, l) => Lit { p: q, lit },
+        Literal::Float(b) => Lit { p: q, lit },
+        Literal::Refused(e) => {
+            let q2 = refuse(q, e);
+            Lit { p: q2, lit }
+        }
+    }
+}
+
+// The bits of a float, or the question that refuses it.
+fn bits_of(lit: Literal, p: Parsed) -> Num
+    ensures { λ r. ⌜ ((text : List ℕ) → Gives (bitsIn lit) (r .v) text p (r .p)) ⌝ }
+{
+    match lit {
+        Literal::Int(h, l) => {
+            let q = refuse(p, records::Q_LITERAL);
+            Num { p: q, v: 0 }
+        }
+        Literal::Float(b) => Num { p, v: b },
+        Literal::Refused(e) => {
+            let q2 = refuse(p, e);
+            Num { p: q2, v: 0 }
+        }
+    }
+}
+
+// The bits of a float, behind `0x`.
+pub fn parse_hex_float(classes: &[u8; 256], text: &[u8], p: Parsed) -> Num
+    requires { ⌜ Classes (now classes) ⌝ }
+    ensures { λ r. ⌜ Gives parseHexFloat (r .v) (now (text .entry)) p (r .p) ⌝ }
+{
+    let x = hex_digits(classes, text, p);
+    let q = x.p;
+    let h = x.h;
+    let lit = hex_literal(h);
+    bits_of(lit, q)
+}
+
+// The bits of a float or a widened one, behind `f0x`.
+pub fn parse_f0x(classes: &[u8; 256], text: &[u8], p: Parsed) -> Num
+    requires { ⌜ Classes (now classes) ⌝ }
+    ensures { λ r. ⌜ Gives parseF0x (r .v) (now (text .entry)) p (r .p) ⌝ }
+{
+    let x = hex_digits(classes, text, p);
+    let q = x.p;
+    let h = x.h;
+    let lit = f0x_literal(h);
+    bits_of(lit, q)
+}
