@@ -45,5 +45,9 @@ int main(void) {
   show("broken", broken, r, place, entries);
   if (r != ZIMLOKUR_Q_VALUE || place != 17 || entries != 0 || words[0] != 0 || directory[0] != 0)
     return 1;
+  if (fflush(stdout) || ferror(stdout)) {
+    fputs("cue: standard output cannot be written\n", stderr);
+    return 2;
+  }
   return 0;
 }

@@ -71,5 +71,9 @@ int main(void) {
         most = used;
     }
   printf("%zu bytes of stack at most\n", most);
+  if (fflush(stdout) || ferror(stdout)) {
+    fputs("stack: standard output cannot be written\n", stderr);
+    return 2;
+  }
   return 0;
 }

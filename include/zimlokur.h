@@ -2,7 +2,12 @@
  *
  * Each call takes any bytes, any older records and arrays of any length, does nothing undefined and ends. It allocates nothing, keeps
  * nothing between calls and writes nowhere but to what is lent to it. Arrays that are lent do not overlap each other or a text; an empty
- * array may be NULL. docs/01 of the project decides what is read; the promise of each call is proved of the code (crates/zimlokur).
+ * array may be NULL. What is read is said in docs/SCOPE.md, what the words mean in docs/RECORDS.md, what a refusal means in
+ * docs/QUESTIONS.md. The promise of each call is proved of the code (crates/zimlokur).
+ *
+ * The archive libzimlokur.a is for x86-64 Linux. A call needs at most some 50,000 bytes of stack (49,360 measured at the deepest text).
+ * For a text of n bytes, n + n/3 words and n/3 + 2 directory words are enough (argued and measured; by the proofs 8n and 2n are:
+ * docs/RECORDS.md); for a re-reading take the longer text. More room changes nothing but the zeros behind.
  */
 #ifndef ZIMLOKUR_H
 #define ZIMLOKUR_H
@@ -40,7 +45,7 @@ enum zimlokur_question {
     ZIMLOKUR_Q_OLDER = 22
 };
 
-/* Kinds of nodes: the upper 8 bits of a header. */
+/* Kinds of nodes: the upper 8 bits of a header. No reading makes ZIMLOKUR_K_ATOMIC_RMW: question 18 refuses it. */
 enum zimlokur_kind {
     ZIMLOKUR_K_VOID = 1,
     ZIMLOKUR_K_INT = 2,
@@ -97,7 +102,8 @@ enum zimlokur_kind {
     ZIMLOKUR_K_NAME = 63
 };
 
-/* Details: the 8 bits below the kind, where they are no rank of an operator or predicate. A head has its linkage, plus ZIMLOKUR_D_VARARGS. */
+/* Details: the 8 bits below the kind, where they are no rank of an operator or predicate (docs/RECORDS.md
+ * has the ranks). A head has its linkage, plus ZIMLOKUR_D_VARARGS. ZIMLOKUR_D_CONDITION is two bits: a condition, and a second target. */
 enum zimlokur_detail {
     ZIMLOKUR_D_VARARGS = 128,
     ZIMLOKUR_D_PACKED = 1,
@@ -142,7 +148,8 @@ uint64_t zimlokur_parse_define(const uint8_t *text, size_t text_len, uint64_t *w
 /* The re-reading after an edit, in the arrays that hold the records of the older text.
  *
  * Returns 0 where it is accepted, else the number of the question that refuses.
- * Accepted: *entries is the number of pieces, *first the number of the first piece that was read, *read how many were; the arrays are as
+ * Accepted: *place is 0, *entries is the number of pieces, *first the number of the first piece that was read (the number of pieces, if
+ *   none was), *read how many were; the arrays are as
  *   zimlokur_parse_define would have left them for the newer text, if they were as it left them for the older text, with
  *   older_entries the count that it gave.
  * Refused: *place is where, *entries, *first and *read are 0, and every word of both arrays is 0.
@@ -153,7 +160,8 @@ uint64_t zimlokur_reparse_define(const uint8_t *older, size_t older_len, const u
                                  size_t words_len, uint64_t *directory, size_t directory_len, uint64_t older_entries, uint64_t *place,
                                  uint64_t *entries, uint64_t *first, uint64_t *read);
 
-/* The line and the column of a place in a text, both counted from 1; a place behind the text's end is one column behind its last byte. */
+/* The line and the column of a place in a text, both counted from 1. The place at the text's end is one column behind its last byte; a place
+ * further on, which two errors in escapes give, counts the byte that is missing and is two columns behind. */
 void zimlokur_position(const uint8_t *text, size_t text_len, uint64_t place, uint64_t *line, uint64_t *column);
 
 #ifdef __cplusplus

@@ -13,7 +13,7 @@ unfoldable pub feeds : List ℕ → ℕ
 feeds [] = 0
 feeds (x ∷ s) = pick (eqb x (byte "\n")) 1 0 + feeds s
 
--- how many bytes stand behind the last line feed, where c stood before; each is a character (question 2)
+-- how many bytes stand behind the last line feed, where c stood before; each counts as a character, as it is one where question 2 has been asked
 unfoldable pub since : ℕ → List ℕ → ℕ
 since c [] = c
 since c (x ∷ s) = since (pick (eqb x (byte "\n")) 0 (c + 1)) s

@@ -1,63 +1,156 @@
-// What the programs print: a listing of pieces, a refusal.
-// A word and a number.
+// What the programs print: a listing of pieces, a refusal, made in a lent buffer.
+ghost use mathlib.Core.Path.{_≡_};
+ghost use lib.ListN.{set, drop};
+ghost use Rattle.lexer.specs.Step.{bumped};
+ghost use Rattle.listing.specs.Stored.{Stores};
+ghost use Rattle.listing.specs.Lines.{decimal, field, pieceLine, pieceLines, wordsEnd, listing, refusalLine};
 
-pub fn say(word: &[u8], n: u64) {
-    io::write_all(1, word);
-    io::print_decimal(1, n);
+// A byte, where there is room; the next place.
+fn put(out: &mut [u8], at: usize, b: u8) -> usize
+    ensures { λ r. ⌜ (r ≡ bumped at) × (now (out .exit) ≡ set (now (out .entry)) at b) ⌝ }
+{
+    if at < out.len() {
+        out[at] = b;
+        return lexer::bump(at);
+    }
+    lexer::bump(at)
 }
 
-// The upper and the lower half of a directory word.
-fn high(x: u64) -> u64 {
-    x / 4294967296
+// Bytes from one of them on, as far as there is room; the place behind them.
+fn put_from(out: &mut [u8], at: usize, bytes: &[u8], from: usize) -> usize
+    ensures { λ r. ⌜ Stores (drop from (now (bytes .entry))) at (now (out .entry)) r (now (out .exit)) ⌝ }
+{
+    let mut k = at;
+    let mut i = from;
+    while i < bytes.len() {
+        let b = bytes[i];
+        k = put(out, k, b);
+        i += 1;
+    }
+    k
 }
 
-fn low(x: u64) -> u64 {
-    x % 4294967296
+// Bytes, as far as there is room; the place behind them.
+fn put_all(out: &mut [u8], at: usize, bytes: &[u8]) -> usize
+    ensures { λ r. ⌜ Stores (now (bytes .entry)) at (now (out .entry)) r (now (out .exit)) ⌝ }
+{
+    put_from(out, at, bytes, 0)
 }
 
-// Where the words of the n pieces end: each piece begins where the last ended.
-fn all_words(directory: &[u64], n: usize) -> u64 {
+// A number's digits, which stand from `from` on.
+struct Digits {
+    bytes: [u8; 20],
+    from: usize,
+}
+
+// They are made from the last on.
+fn digits_of(n: u64) -> Digits
+    ensures { λ r. ⌜ drop (r .from) (r .bytes) ≡ decimal n ⌝ }
+{
+    let mut bytes = [0u8; 20];
+    let mut from: usize = 20;
+    let mut m = n;
+    while 0 < from {
+        from -= 1;
+        bytes[from] = b'0' + (m % 10) as u8;
+        if m < 10 {
+            return Digits { bytes, from };
+        }
+        m = m / 10;
+    }
+    Digits { bytes, from }
+}
+
+// A number in decimal.
+fn put_decimal(out: &mut [u8], at: usize, n: u64) -> usize
+    ensures { λ r. ⌜ Stores (decimal n) at (now (out .entry)) r (now (out .exit)) ⌝ }
+{
+    let d = digits_of(n);
+    let bytes = d.bytes;
+    put_from(out, at, &bytes, d.from)
+}
+
+// A space and a number.
+fn put_field(out: &mut [u8], at: usize, n: u64) -> usize
+    ensures { λ r. ⌜ Stores (field n) at (now (out .entry)) r (now (out .exit)) ⌝ }
+{
+    let k = put_all(out, at, b" ");
+    put_decimal(out, k, n)
+}
+
+// A piece: its number, and its entry's two words.
+fn put_piece(out: &mut [u8], at: usize, i: u64, x: u64, y: u64) -> usize
+    ensures { λ r. ⌜ Stores (pieceLine i x y) at (now (out .entry)) r (now (out .exit)) ⌝ }
+{
+    let k = put_decimal(out, at, i);
+    let k1 = put_field(out, k, x / records::HALF);
+    let k2 = put_field(out, k1, x % records::HALF);
+    let k3 = put_field(out, k2, y / records::HALF);
+    let k4 = put_field(out, k3, y % records::HALF);
+    put_all(out, k4, b"\n")
+}
+
+// A line for each of n pieces, as far as the directory has them.
+fn put_pieces(out: &mut [u8], at: usize, directory: &[u64], n: usize) -> usize
+    ensures { λ r. ⌜ Stores (pieceLines 0 n (now (directory .entry))) at (now (out .entry)) r (now (out .exit)) ⌝ }
+{
+    let mut k = at;
     let mut i: usize = 0;
+    while i < n {
+        if directory.len() / 2 <= i {
+            return k;
+        }
+        let x = directory[i * 2];
+        let y = directory[i * 2 + 1];
+        k = put_piece(out, k, i as u64, x, y);
+        i += 1;
+    }
+    k
+}
+
+// Where the words of n pieces end: each piece begins where the last ended.
+fn words_end(directory: &[u64], n: usize) -> u64
+    ensures { λ r. ⌜ r ≡ wordsEnd 0 n (now (directory .entry)) ⌝ }
+{
     let mut end: u64 = 0;
+    let mut i: usize = 0;
     while i < n {
         if directory.len() / 2 <= i {
             return end;
         }
         let y = directory[i * 2 + 1];
-        end = std::num::wrapping_add_u64(high(y), low(y));
+        end = y / records::HALF + y % records::HALF;
         i += 1;
     }
     end
 }
 
-// `pieces N words M`, then a line for each: piece, start, length, first word, words.
-pub fn list(directory: &[u64], n: usize) {
-    say(b"pieces ", n as u64);
-    say(b" words ", all_words(directory, n));
-    io::write_all(1, b"\n");
-    let mut i: usize = 0;
-    while i < n {
-        if directory.len() / 2 <= i {
-            return;
-        }
-        let x = directory[i * 2];
-        let y = directory[i * 2 + 1];
-        io::print_decimal(1, i as u64);
-        say(b" ", high(x));
-        say(b" ", low(x));
-        say(b" ", high(y));
-        say(b" ", low(y));
-        io::write_all(1, b"\n");
-        i += 1;
-    }
+// `pieces N words M`, then a line for each piece: its number, start, length, first word, words. How many bytes it has, and these in the
+// buffer, as far as it reaches.
+pub fn list(directory: &[u64], n: usize, out: &mut [u8]) -> usize
+    ensures { λ r. ⌜ Stores (listing n (now (directory .entry))) 0 (now (out .entry)) r (now (out .exit)) ⌝ }
+{
+    let end = words_end(directory, n);
+    let k = put_all(out, 0, b"pieces ");
+    let k1 = put_decimal(out, k, n as u64);
+    let k2 = put_all(out, k1, b" words ");
+    let k3 = put_decimal(out, k2, end);
+    let k4 = put_all(out, k3, b"\n");
+    put_pieces(out, k4, directory, n)
 }
 
-// `refused N place P line L column C`
-pub fn refusal(text: &[u8], q: u64, p: u64) {
+// `refused N place P line L column C`, likewise.
+pub fn refusal(text: &[u8], q: u64, p: u64, out: &mut [u8]) -> usize
+    ensures { λ r. ⌜ Stores (refusalLine (now (text .entry)) q p) 0 (now (out .entry)) r (now (out .exit)) ⌝ }
+{
     let at = lexer::position_of(text, p as usize);
-    say(b"refused ", q);
-    say(b" place ", p);
-    say(b" line ", at.line as u64);
-    say(b" column ", at.column as u64);
-    io::write_all(1, b"\n");
+    let k = put_all(out, 0, b"refused ");
+    let k1 = put_decimal(out, k, q);
+    let k2 = put_all(out, k1, b" place ");
+    let k3 = put_decimal(out, k2, p);
+    let k4 = put_all(out, k3, b" line ");
+    let k5 = put_decimal(out, k4, at.line as u64);
+    let k6 = put_all(out, k5, b" column ");
+    let k7 = put_decimal(out, k6, at.column as u64);
+    put_all(out, k7, b"\n")
 }

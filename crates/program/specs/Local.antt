@@ -196,6 +196,23 @@ closed-local p xs ys zs (suc m) ws h l =
     let b : isWord (byteAt (drop m (xs ++ ys))) ≡ false = closing p 0 m (xs ++ ys) ws (rw z h) in
     local p 0 m xs ys zs (rw (h, z)) (settles m xs ys l b)
 
+pub ends-drop : (m : ℕ) (xs : List ℕ) → ends (drop m xs) ≡ true → ends xs ≡ true
+unfolding ends
+ends-drop zero xs h = h
+ends-drop (suc m) [] h = h
+ends-drop (suc m) (x ∷ xs) h = go (isWord x) refl (ends-drop m xs h)
+  where
+    go : (t : Bool) → isWord x ≡ t → ends xs ≡ true → ends (x ∷ xs) ≡ true
+    go true t e = rw (ends, t) e
+    go false t e = rw (ends, t)
+
+-- Its closing byte is no letter, digit or `_`, so the stretch settles where a word in front of it ends.
+pub closed-ends : {A : Type 0} (p : Prog A) (xs ys : List ℕ) (e : ℕ) (ws : List ℕ) → run p 0 (xs ++ ys) ≡ closed ws e → e ≤ length xs → ends xs ≡ true
+closed-ends p xs ys zero ws h l = let r : (1 ≤ 0) × (0 ≤ 0 + length (xs ++ ys)) = closed-range p 0 0 (xs ++ ys) ws h in absurd (omega arith)
+closed-ends p xs ys (suc m) ws h l =
+    let z : 0 + m ≡ m = zero-add m in
+    ends-drop m xs (settles m xs ys l (closing p 0 m (xs ++ ys) ws (rw z h)))
+
 -- One program after another, for a proof about code: the second runs where the first ended.
 unfoldable pub next : {A B : Type 0} → (A → Prog B) → ℕ → List ℕ → Res A → Res B
 next h i s (ok a j) = run (h a) j (drop (j - i) s)

@@ -14,19 +14,19 @@ use Rattle.records.specs.Pieces.{head, block, tail, leads, addrspace, closes}
 use Rattle.theorem_edits.specs.Law.{Grammar}
 use Rattle.records.specs.Piece.{headOf, blockOf, headRead, blockRead}
 
-block-is : (r : Res (List ℕ)) (e : ℕ) (ws : List ℕ) → blockOf r ≡ block e ws → r ≡ ok ws e
+pub block-is : (r : Res (List ℕ)) (e : ℕ) (ws : List ℕ) → blockOf r ≡ block e ws → r ≡ ok ws e
 unfolding blockOf
 block-is (ok v j) e ws h = cc
 block-is (closed v j) e ws h = let z : _≡_ {A = ℕ} 0 1 = cc in absurd (omega arith)
 block-is (no-at q p) e ws h = let z : _≡_ {A = ℕ} 0 1 = cc in absurd (omega arith)
 
-tail-is : (r : Res (List ℕ)) (e : ℕ) → blockOf r ≡ tail e → (ws : List ℕ) × (r ≡ closed ws e)
+pub tail-is : (r : Res (List ℕ)) (e : ℕ) → blockOf r ≡ tail e → (ws : List ℕ) × (r ≡ closed ws e)
 unfolding blockOf
 tail-is (ok v j) e h = let z : _≡_ {A = ℕ} 0 1 = cc in absurd (omega arith)
 tail-is (closed v j) e h = (v, cc)
 tail-is (no-at q p) e h = let z : _≡_ {A = ℕ} 0 1 = cc in absurd (omega arith)
 
-head-is : (r : Res (List ℕ)) (e : ℕ) (ws : List ℕ) → headOf r ≡ head e ws → r ≡ closed ws e
+pub head-is : (r : Res (List ℕ)) (e : ℕ) (ws : List ℕ) → headOf r ≡ head e ws → r ≡ closed ws e
 unfolding headOf
 head-is (ok v j) e ws h = let z : _≡_ {A = ℕ} 0 1 = cc in absurd (omega arith)
 head-is (closed v j) e ws h = cc

@@ -3,6 +3,7 @@
 
 pub mod beside;
 pub mod body;
+pub mod calls;
 pub mod full;
 pub mod lexer;
 pub mod literals;

@@ -1,26 +1,26 @@
--- Nothing is promised but that each access is in bounds and the loop ends: the test before the reads bounds both, and i grows to n.
+-- The calls, one behind the other.
+use Rattle.listing.specs.Lines.{listing}
+use Rattle.listing.proofs.Laws.{and-then}
 use borrow.Author.Needs.{needs}
-use Prim.Native.Nat.{_-_}
 use Rattle.listing.proofs.list.Statement.{statement}
 use Rattle.listing.proofs.list.Tie as tie
 
-abbrev Inv-loop : tie.InvT-loop
-Inv-loop directory n i₀ t9 t10 t11 t12 t13 i = Unit {0}
-
-abbrev μ-loop : tie.MeasureT-loop
-μ-loop directory n i₀ t9 t10 t11 t12 t13 i = n - i
+returns : tie.Need-returns
+unfolding listing
+returns c =
+    let c2 = c .before .before in
+    let c6 = c2 .before .before .before .before in
+    let c11 = c6 .before .before .before .before .before in
+    let c15 = c11 .before .before .before .before in
+    let c20 = c15 .before .before .before .before .before in
+    let c24 = c20 .before .before .before .before in
+    let end = rw (c24 .before .before .before .words-end .ensures) at (c11 .put-decimal2 .ensures) in
+    and-then (c24 .put-all .ensures) (and-then (c20 .put-decimal .ensures) (and-then (c15 .put-all2 .ensures) (and-then end (and-then (c6 .put-all3 .ensures) (c2 .put-pieces .ensures)))))
 
 pub list-spec : {M : Type 1} → statement M
 list-spec =
     tie.close
     (tie.spec
-    Inv-loop
-    μ-loop
-    (λ c. search needs) (λ c. search needs) (λ c. search needs) (λ c. search needs) (λ c. search needs) (λ c. search needs) (λ c. search needs)
-    (λ c. tt)
-    (λ c. search needs) (λ c. search needs) (λ c. search needs) (λ c. search needs) (λ c. search needs) (λ c. search needs) (λ c. search needs)
-    (λ c. search needs) (λ c. search needs) (λ c. search needs) (λ c. search needs) (λ c. search needs) (λ c. search needs) (λ c. search needs)
     (λ c. search needs) (λ c. search needs) (λ c. search needs) (λ c. search needs) (λ c. search needs) (λ c. search needs) (λ c. search needs)
     (λ c. search needs) (λ c. search needs) (λ c. search needs) (λ c. search needs)
-    (λ c. tt)
-    (λ c. search needs))
+    returns)

@@ -1,0 +1,59 @@
+//! Reads the cue on standard input, a function's text from behind the word `define`, and prints the number of its pieces or the refusal.
+//! Then the same text is read again as an edit of itself, of which at most the tail is read.
+//! Exits 0 if the cue is accepted, 1 if it is refused, 2 without a cue.
+//!
+//!     rustc --edition 2021 -L native=target/staticlib -l static=zimlokur examples/rust/cue.rs -o target/cue-rust
+#![deny(unsafe_code)]
+
+#[allow(unsafe_code)]
+mod zimlokur;
+
+use std::io::{self, Read, Write};
+use std::process::ExitCode;
+
+const MOST_BYTES: usize = 65_536;
+
+/// The cue, or the one line that says why there is none.
+fn take_input() -> Result<Vec<u8>, String> {
+    let mut cue = Vec::new();
+    // one byte more than is taken, so that a longer input shows
+    let limit = MOST_BYTES as u64 + 1;
+    io::stdin().take(limit).read_to_end(&mut cue).map_err(|error| format!("standard input: {error}"))?;
+    match cue.len() {
+        0 => Err("standard input: no input".to_string()),
+        length if length > MOST_BYTES => Err("standard input: too long".to_string()),
+        _ => Ok(cue),
+    }
+}
+
+/// What is printed of the cue; a refusal is the second kind.
+fn read(cue: &[u8]) -> Result<String, String> {
+    let mut words = vec![0; 2 * cue.len() + 16];
+    let mut directory = vec![0; cue.len() + 16];
+    let refused = |refusal: zimlokur::Refusal| {
+        let at = zimlokur::position(cue, refusal.place);
+        format!("refused {} place {} line {} column {}", refusal.question, refusal.place, at.line, at.column)
+    };
+    let entries = zimlokur::parse_define(cue, &mut words, &mut directory).map_err(refused)?;
+    let again = zimlokur::reparse_define(cue, cue, &mut words, &mut directory, entries).map_err(refused)?;
+    Ok(format!(
+        "pieces {}\nagain: pieces {} first {} read {}",
+        entries, again.entries, again.first, again.read
+    ))
+}
+
+fn run() -> Result<ExitCode, String> {
+    let (said, status) = match read(&take_input()?) {
+        Ok(accepted) => (accepted, ExitCode::SUCCESS),
+        Err(refused) => (refused, ExitCode::from(1)),
+    };
+    writeln!(io::stdout(), "{said}").map_err(|error| format!("standard output: {error}"))?;
+    Ok(status)
+}
+
+fn main() -> ExitCode {
+    run().unwrap_or_else(|why| {
+        eprintln!("cue: {why}");
+        ExitCode::from(2)
+    })
+}

@@ -1,0 +1,120 @@
+//! The library's calls for Rust: slices in, a result out. What the C header asks of a caller the borrows give: every slice is valid for its
+//! length, and an array that is lent for writing overlaps nothing else. So these functions are safe to call with whatever they are given.
+
+/// A text that is refused: by which question, and where.
+#[derive(Debug, Clone, Copy, PartialEq, Eq)]
+pub struct Refusal {
+    pub question: u64,
+    pub place: u64,
+}
+
+/// What a re-reading did: how many pieces the newer text has, the first that was read, and how many were.
+#[derive(Debug, Clone, Copy, PartialEq, Eq)]
+pub struct Reread {
+    pub entries: u64,
+    pub first: u64,
+    pub read: u64,
+}
+
+/// A place in a text as people count it, from 1.
+#[derive(Debug, Clone, Copy, PartialEq, Eq)]
+pub struct Position {
+    pub line: u64,
+    pub column: u64,
+}
+
+extern "C" {
+    fn zimlokur_parse_define(
+        text: *const u8,
+        text_len: usize,
+        words: *mut u64,
+        words_len: usize,
+        directory: *mut u64,
+        directory_len: usize,
+        place: *mut u64,
+        entries: *mut u64,
+    ) -> u64;
+
+    fn zimlokur_reparse_define(
+        older: *const u8,
+        older_len: usize,
+        newer: *const u8,
+        newer_len: usize,
+        words: *mut u64,
+        words_len: usize,
+        directory: *mut u64,
+        directory_len: usize,
+        older_entries: u64,
+        place: *mut u64,
+        entries: *mut u64,
+        first: *mut u64,
+        read: *mut u64,
+    ) -> u64;
+
+    fn zimlokur_position(text: *const u8, text_len: usize, place: u64, line: *mut u64, column: *mut u64);
+}
+
+/// No question is number 0: it means accepted.
+fn answer<T>(question: u64, place: u64, accepted: T) -> Result<T, Refusal> {
+    match question {
+        0 => Ok(accepted),
+        question => Err(Refusal { question, place }),
+    }
+}
+
+/// The full reading of one function, from behind the word `define`: the number of its pieces. Words and directory are as the header says.
+pub fn parse_define(text: &[u8], words: &mut [u64], directory: &mut [u64]) -> Result<u64, Refusal> {
+    let (mut place, mut entries) = (0, 0);
+    // SAFETY: each pointer comes from a reference that lives through the call, with the length of its slice.
+    let question = unsafe {
+        zimlokur_parse_define(
+            text.as_ptr(),
+            text.len(),
+            words.as_mut_ptr(),
+            words.len(),
+            directory.as_mut_ptr(),
+            directory.len(),
+            &mut place,
+            &mut entries,
+        )
+    };
+    answer(question, place, entries)
+}
+
+/// The re-reading after an edit, in the arrays that hold the records of the older text.
+pub fn reparse_define(
+    older: &[u8],
+    newer: &[u8],
+    words: &mut [u64],
+    directory: &mut [u64],
+    older_entries: u64,
+) -> Result<Reread, Refusal> {
+    let (mut place, mut entries, mut first, mut read) = (0, 0, 0, 0);
+    // SAFETY: as above; the two texts are only read, so they may be the same.
+    let question = unsafe {
+        zimlokur_reparse_define(
+            older.as_ptr(),
+            older.len(),
+            newer.as_ptr(),
+            newer.len(),
+            words.as_mut_ptr(),
+            words.len(),
+            directory.as_mut_ptr(),
+            directory.len(),
+            older_entries,
+            &mut place,
+            &mut entries,
+            &mut first,
+            &mut read,
+        )
+    };
+    answer(question, place, Reread { entries, first, read })
+}
+
+/// The line and the column of a place.
+pub fn position(text: &[u8], place: u64) -> Position {
+    let (mut line, mut column) = (0, 0);
+    // SAFETY: as above.
+    unsafe { zimlokur_position(text.as_ptr(), text.len(), place, &mut line, &mut column) };
+    Position { line, column }
+}

@@ -1,0 +1,435 @@
+/* Prints the nodes of a cue as an indented tree, as a preview screen would show them, piece by piece. Standard input has a function's text
+ * from behind the word `define`. A line is a node: its kind, its detail in words, its names as they stand in the text, its numbers.
+ * The words are not believed: whatever they hold, nothing outside the arrays and the text is looked at, and what does not fit is said.
+ * Exits 0 if the tree is whole, 1 if it is not or the cue is refused, 2 without a cue.
+ * cc -Iinclude examples/walk.c target/staticlib/libzimlokur.a -o target/walk */
+#include "common.h"
+
+enum { MOST_BYTES = 65536, WORDS = 2 * MOST_BYTES + 64, DIRECTORY_WORDS = MOST_BYTES + 64 };
+
+/* A piece's node, an instruction or a parameter in it, and 64 levels of types and values in that: no tree is deeper. */
+enum { MOST_LEVELS = 66 };
+
+/* One byte more than is taken, so that a longer input shows. */
+static uint8_t input[MOST_BYTES + 1];
+static uint64_t words[WORDS];
+static uint64_t directory[DIRECTORY_WORDS];
+
+/* Words that are left to read, in a piece or in one node. */
+struct span {
+  const uint64_t *words;
+  size_t length;
+};
+
+/* A header: what a node is, and how far it goes. */
+struct header {
+  unsigned kind, detail;
+  size_t children, size;
+};
+
+/* What is being printed: the text of the piece, which its names count from, and what did not fit so far. */
+struct walk {
+  struct text piece;
+  size_t faults;
+};
+
+/* Words are named by their rank in a list. */
+struct ranks {
+  const char *const *names;
+  size_t count;
+};
+
+static struct header header_of(uint64_t word) {
+  struct header header = {(unsigned)(word >> 56), (unsigned)(word >> 48 & 0xFF), (size_t)(word >> 32 & 0xFFFF), (size_t)lower(word)};
+  return header;
+}
+
+/* The name of a kind in the header file, in small letters; NULL for a number that is none. */
+static const char *kind_name(unsigned kind) {
+  static const char *const names[] = {
+      [ZIMLOKUR_K_VOID] = "void",
+      [ZIMLOKUR_K_INT] = "int",
+      [ZIMLOKUR_K_FLOAT] = "float",
+      [ZIMLOKUR_K_DOUBLE] = "double",
+      [ZIMLOKUR_K_PTR] = "ptr",
+      [ZIMLOKUR_K_ARRAY] = "array",
+      [ZIMLOKUR_K_NAMED] = "named",
+      [ZIMLOKUR_K_STRUCT] = "struct",
+      [ZIMLOKUR_K_LABEL] = "label",
+      [ZIMLOKUR_K_METADATA] = "metadata",
+      [ZIMLOKUR_K_FUNC] = "func",
+      [ZIMLOKUR_K_LOCAL] = "local",
+      [ZIMLOKUR_K_GLOBAL] = "global",
+      [ZIMLOKUR_K_INT_CONST] = "int_const",
+      [ZIMLOKUR_K_FLOAT_CONST] = "float_const",
+      [ZIMLOKUR_K_NULL] = "null",
+      [ZIMLOKUR_K_UNDEF] = "undef",
+      [ZIMLOKUR_K_POISON] = "poison",
+      [ZIMLOKUR_K_ZERO_INIT] = "zero_init",
+      [ZIMLOKUR_K_CSTR] = "cstr",
+      [ZIMLOKUR_K_ARRAY_CONST] = "array_const",
+      [ZIMLOKUR_K_STRUCT_CONST] = "struct_const",
+      [ZIMLOKUR_K_GEP_EXPR] = "gep_expr",
+      [ZIMLOKUR_K_CONV_EXPR] = "conv_expr",
+      [ZIMLOKUR_K_BIN_EXPR] = "bin_expr",
+      [ZIMLOKUR_K_BIN] = "bin",
+      [ZIMLOKUR_K_FBIN] = "fbin",
+      [ZIMLOKUR_K_FNEG] = "fneg",
+      [ZIMLOKUR_K_CONV] = "conv",
+      [ZIMLOKUR_K_ICMP] = "icmp",
+      [ZIMLOKUR_K_FCMP] = "fcmp",
+      [ZIMLOKUR_K_SELECT] = "select",
+      [ZIMLOKUR_K_LOAD] = "load",
+      [ZIMLOKUR_K_STORE] = "store",
+      [ZIMLOKUR_K_ALLOCA] = "alloca",
+      [ZIMLOKUR_K_GEP] = "gep",
+      [ZIMLOKUR_K_PHI] = "phi",
+      [ZIMLOKUR_K_CALL] = "call",
+      [ZIMLOKUR_K_FREEZE] = "freeze",
+      [ZIMLOKUR_K_ATOMIC_LOAD] = "atomic_load",
+      [ZIMLOKUR_K_ATOMIC_STORE] = "atomic_store",
+      [ZIMLOKUR_K_CMPXCHG] = "cmpxchg",
+      [ZIMLOKUR_K_EXTRACT_VALUE] = "extract_value",
+      [ZIMLOKUR_K_FENCE] = "fence",
+      [ZIMLOKUR_K_RET] = "ret",
+      [ZIMLOKUR_K_BR] = "br",
+      [ZIMLOKUR_K_SWITCH] = "switch",
+      [ZIMLOKUR_K_UNREACHABLE] = "unreachable",
+      [ZIMLOKUR_K_HEAD] = "head",
+      [ZIMLOKUR_K_BLOCK] = "block",
+      [ZIMLOKUR_K_PARAM] = "param",
+      [ZIMLOKUR_K_NAME] = "name",
+  };
+  return kind < sizeof names / sizeof *names ? names[kind] : NULL;
+}
+
+/* The operators and predicates that a kind's detail ranks, in the order of the definitions; none for every other kind. */
+static struct ranks ranks_of(unsigned kind) {
+  static const char *const bin[] = {"add", "sub", "mul", "udiv", "sdiv", "urem", "srem", "and", "or", "xor", "shl", "lshr", "ashr"};
+  static const char *const fbin[] = {"fadd", "fsub", "fmul", "fdiv", "frem"};
+  static const char *const conv[] = {"trunc",  "zext",   "sext",   "ptrtoint", "inttoptr", "bitcast",
+                                     "sitofp", "uitofp", "fptosi", "fptoui",   "fpext",    "fptrunc"};
+  static const char *const icmp[] = {"eq", "ne", "ugt", "uge", "ult", "ule", "sgt", "sge", "slt", "sle"};
+  static const char *const fcmp[] = {"false", "oeq", "ogt", "oge", "olt", "ole", "one", "ord",
+                                     "ueq",   "ugt", "uge", "ult", "ule", "une", "uno", "true"};
+  switch (kind) {
+  case ZIMLOKUR_K_BIN:
+  case ZIMLOKUR_K_BIN_EXPR:
+    return (struct ranks){bin, sizeof bin / sizeof *bin};
+  case ZIMLOKUR_K_FBIN:
+    return (struct ranks){fbin, sizeof fbin / sizeof *fbin};
+  case ZIMLOKUR_K_CONV:
+    return (struct ranks){conv, sizeof conv / sizeof *conv};
+  case ZIMLOKUR_K_CONV_EXPR:
+    return (struct ranks){conv, 6}; /* a constant is converted by the first six only */
+  case ZIMLOKUR_K_ICMP:
+    return (struct ranks){icmp, sizeof icmp / sizeof *icmp};
+  case ZIMLOKUR_K_FCMP:
+    return (struct ranks){fcmp, sizeof fcmp / sizeof *fcmp};
+  default:
+    return (struct ranks){NULL, 0};
+  }
+}
+
+/* What does not fit is said behind the node's kind, and counted. */
+static void fault(struct walk *walk, const char *what) {
+  printf(" (%s)", what);
+  walk->faults++;
+}
+
+/* A flag's name if it is set; gives the detail without it. */
+static unsigned show_flag(unsigned detail, unsigned flag, const char *name) {
+  if ((detail & flag) == flag)
+    printf(" %s", name);
+  return detail & ~flag;
+}
+
+/* The linkage in the head's detail, by name; gives the detail without it. */
+static unsigned show_linkage(unsigned detail) {
+  static const char *const names[] = {
+      [ZIMLOKUR_LINKAGE_PRIVATE] = "private",
+      [ZIMLOKUR_LINKAGE_INTERNAL] = "internal",
+      [ZIMLOKUR_LINKAGE_AVAILABLE_EXTERNALLY] = "available_externally",
+      [ZIMLOKUR_LINKAGE_LINKONCE] = "linkonce",
+      [ZIMLOKUR_LINKAGE_WEAK] = "weak",
+      [ZIMLOKUR_LINKAGE_COMMON] = "common",
+      [ZIMLOKUR_LINKAGE_APPENDING] = "appending",
+      [ZIMLOKUR_LINKAGE_EXTERN_WEAK] = "extern_weak",
+      [ZIMLOKUR_LINKAGE_LINKONCE_ODR] = "linkonce_odr",
+      [ZIMLOKUR_LINKAGE_WEAK_ODR] = "weak_odr",
+      [ZIMLOKUR_LINKAGE_EXTERNAL] = "external",
+  };
+  unsigned linkage = detail & ~(unsigned)ZIMLOKUR_D_VARARGS;
+  if (linkage >= sizeof names / sizeof *names)
+    return detail;
+  printf(" %s", names[linkage]);
+  return show_flag(detail & ZIMLOKUR_D_VARARGS, ZIMLOKUR_D_VARARGS, "varargs");
+}
+
+/* The flags of a kind by name; gives what of the detail has none. */
+static unsigned show_flags(unsigned kind, unsigned detail) {
+  switch (kind) {
+  case ZIMLOKUR_K_HEAD:
+    return show_linkage(detail);
+  case ZIMLOKUR_K_ARRAY:
+  case ZIMLOKUR_K_STRUCT:
+    return show_flag(detail, ZIMLOKUR_D_PACKED, "packed");
+  case ZIMLOKUR_K_FUNC:
+    return show_flag(detail, ZIMLOKUR_D_DOTS, "dots");
+  case ZIMLOKUR_K_GEP:
+  case ZIMLOKUR_K_GEP_EXPR:
+    return show_flag(detail, ZIMLOKUR_D_INBOUNDS, "inbounds");
+  case ZIMLOKUR_K_LOAD:
+  case ZIMLOKUR_K_STORE:
+    return show_flag(detail, ZIMLOKUR_D_ALIGN, "align");
+  case ZIMLOKUR_K_ALLOCA:
+    return show_flag(show_flag(detail, ZIMLOKUR_D_COUNT, "count"), ZIMLOKUR_D_ALLOCA_ALIGN, "align");
+  case ZIMLOKUR_K_CALL:
+    return show_flag(detail, ZIMLOKUR_D_FUNCTION_TYPE, "function_type");
+  case ZIMLOKUR_K_BR:
+    return show_flag(detail, ZIMLOKUR_D_CONDITION, "condition");
+  case ZIMLOKUR_K_PARAM:
+    return show_flag(detail, ZIMLOKUR_D_NAMED, "named");
+  case ZIMLOKUR_K_RET:
+    return show_flag(detail, ZIMLOKUR_D_VALUE, "value");
+  default:
+    return detail;
+  }
+}
+
+static void show_detail(struct walk *walk, struct header header) {
+  struct ranks ranks = ranks_of(header.kind);
+  if (header.detail < ranks.count)
+    printf(" %s", ranks.names[header.detail]);
+  else if (ranks.count > 0 || show_flags(header.kind, header.detail) != 0)
+    fault(walk, "unknown detail");
+}
+
+/* A name as it stands in its piece, quotes included. A byte that would break the line is shown as an escape. */
+static void show_name(struct walk *walk, const char *sigil, uint64_t name) {
+  uint64_t start = upper(name), length = lower(name);
+  if (start > walk->piece.length || length > walk->piece.length - start) {
+    fault(walk, "name outside the piece");
+    return;
+  }
+  printf(" %s", sigil);
+  for (uint64_t k = start; k < start + length; k++)
+    printf(walk->piece.bytes[k] < ' ' || walk->piece.bytes[k] > '~' ? "\\%02X" : "%c", walk->piece.bytes[k]);
+}
+
+/* An integer of 128 bits in decimal: the number is divided by ten, 32 bits at a time, from its upper end. */
+static void show_int(uint64_t high, uint64_t low) {
+  char digits[40];
+  size_t count = 0;
+  int negative = (int)(high >> 63);
+  if (negative) {
+    low = ~low + 1;
+    high = ~high + (low == 0);
+  }
+  do {
+    uint32_t parts[] = {(uint32_t)upper(high), (uint32_t)lower(high), (uint32_t)upper(low), (uint32_t)lower(low)};
+    uint64_t rest = 0;
+    for (size_t k = 0; k < 4; k++) {
+      uint64_t part = rest << 32 | parts[k];
+      parts[k] = (uint32_t)(part / 10);
+      rest = part % 10;
+    }
+    high = (uint64_t)parts[0] << 32 | parts[1];
+    low = (uint64_t)parts[2] << 32 | parts[3];
+    digits[count++] = (char)('0' + rest);
+  } while (high != 0 || low != 0);
+  printf(negative ? " -" : " ");
+  while (count > 0)
+    putchar(digits[--count]);
+}
+
+/* A float by its bits, and as far as decimals tell. */
+static void show_float(uint64_t bits) {
+  double number;
+  memcpy(&number, &bits, sizeof number);
+  printf(" 0x%016" PRIX64 " %.17g", bits, number);
+}
+
+static int has_destination(unsigned kind) { return kind >= ZIMLOKUR_K_BIN && kind <= ZIMLOKUR_K_FENCE; }
+
+/* How many payload words an instruction has behind its destination. */
+static size_t numbers_of(struct header header) {
+  switch (header.kind) {
+  case ZIMLOKUR_K_LOAD:
+  case ZIMLOKUR_K_STORE:
+    return (header.detail & ZIMLOKUR_D_ALIGN) != 0;
+  case ZIMLOKUR_K_ALLOCA:
+    return (header.detail & ZIMLOKUR_D_ALLOCA_ALIGN) != 0;
+  case ZIMLOKUR_K_EXTRACT_VALUE:
+    return 1;
+  default:
+    return 0;
+  }
+}
+
+/* How many payload words stand between a node's header and its children. */
+static size_t payload_of(struct header header) {
+  if (has_destination(header.kind))
+    return 1 + numbers_of(header);
+  switch (header.kind) {
+  case ZIMLOKUR_K_INT:
+  case ZIMLOKUR_K_ARRAY:
+  case ZIMLOKUR_K_NAMED:
+  case ZIMLOKUR_K_LOCAL:
+  case ZIMLOKUR_K_GLOBAL:
+  case ZIMLOKUR_K_FLOAT_CONST:
+  case ZIMLOKUR_K_CSTR:
+  case ZIMLOKUR_K_HEAD:
+  case ZIMLOKUR_K_BLOCK:
+  case ZIMLOKUR_K_PARAM:
+  case ZIMLOKUR_K_NAME:
+    return 1;
+  case ZIMLOKUR_K_INT_CONST:
+    return 2;
+  case ZIMLOKUR_K_SWITCH: /* two words for each case; type, value and default are children before the cases' labels */
+    return header.children > 3 ? 2 * (header.children - 3) : 0;
+  default:
+    return 0;
+  }
+}
+
+/* A destination if there is one, and the numbers behind it: an alignment or an index. */
+static void show_instruction(struct walk *walk, struct span payload) {
+  if (payload.words[0] != 0)
+    show_name(walk, "%", payload.words[0]);
+  for (size_t k = 1; k < payload.length; k++)
+    printf(" %" PRIu64, payload.words[k]);
+}
+
+static void show_cases(struct span payload) {
+  for (size_t k = 0; k + 1 < payload.length; k += 2)
+    show_int(payload.words[k], payload.words[k + 1]);
+}
+
+/* What stands between the header and the children, by the kind; there are as many words as `payload_of` says. */
+static void show_payload(struct walk *walk, unsigned kind, struct span payload) {
+  if (payload.length == 0)
+    return;
+  switch (kind) {
+  case ZIMLOKUR_K_INT:
+  case ZIMLOKUR_K_ARRAY:
+    printf(" %" PRIu64, payload.words[0]);
+    break;
+  case ZIMLOKUR_K_INT_CONST:
+  case ZIMLOKUR_K_SWITCH:
+    show_cases(payload);
+    break;
+  case ZIMLOKUR_K_FLOAT_CONST:
+    show_float(payload.words[0]);
+    break;
+  case ZIMLOKUR_K_NAMED:
+  case ZIMLOKUR_K_LOCAL:
+  case ZIMLOKUR_K_NAME:
+    show_name(walk, "%", payload.words[0]);
+    break;
+  case ZIMLOKUR_K_GLOBAL:
+  case ZIMLOKUR_K_HEAD:
+    show_name(walk, "@", payload.words[0]);
+    break;
+  case ZIMLOKUR_K_CSTR:
+    show_name(walk, "c", payload.words[0]);
+    break;
+  case ZIMLOKUR_K_PARAM: /* zero: a parameter without a name */
+    if (payload.words[0] != 0)
+      show_name(walk, "%", payload.words[0]);
+    break;
+  case ZIMLOKUR_K_BLOCK: /* zero: no label */
+    if (payload.words[0] != 0)
+      show_name(walk, "", payload.words[0]);
+    else
+      printf(" without label");
+    break;
+  default:
+    show_instruction(walk, payload);
+  }
+}
+
+static void indent(unsigned level) { printf("%*s", (int)(2 * level), ""); }
+
+static size_t show_node(struct walk *walk, struct span span, unsigned level);
+
+/* Nodes one behind the other: as many as `count` says, and they fill the words to their end. */
+static void show_nodes(struct walk *walk, struct span span, size_t count, unsigned level) {
+  size_t shown = 0;
+  while (shown < count && span.length > 0) {
+    size_t size = show_node(walk, span, level);
+    if (size == 0)
+      return; /* that was said; where the next node begins is not known */
+    span.words += size;
+    span.length -= size;
+    shown++;
+  }
+  if (shown < count || span.length > 0) {
+    indent(level);
+    printf("?");
+    fault(walk, "count and words differ");
+    putchar('\n');
+  }
+}
+
+/* One node, which begins where `span` does and must end inside it; gives its size, 0 where it does not fit. */
+static size_t show_node(struct walk *walk, struct span span, unsigned level) {
+  struct header header = header_of(span.words[0]);
+  const char *name = kind_name(header.kind);
+  size_t payload = payload_of(header);
+  indent(level);
+  printf("%s", name ? name : "?");
+  if (!name || level > MOST_LEVELS || header.size > span.length || header.size < 1 + payload) {
+    fault(walk, "no node");
+    putchar('\n');
+    return 0;
+  }
+  show_detail(walk, header);
+  show_payload(walk, header.kind, (struct span){span.words + 1, payload});
+  putchar('\n');
+  show_nodes(walk, (struct span){span.words + 1 + payload, header.size - 1 - payload}, header.children, level + 1);
+  return header.size;
+}
+
+static int is_inside(uint64_t start, uint64_t length, size_t all) { return start <= all && length <= all - start; }
+
+/* A piece is one node; the tail has none. Gives the number of faults in it. */
+static size_t show_piece(struct text cue, struct room room, uint64_t number) {
+  struct piece piece = piece_of(room, number);
+  struct walk walk = {{cue.bytes, 0}, 0};
+  printf("piece %" PRIu64 " start %" PRIu64 " length %" PRIu64 " words %" PRIu64, number, piece.start, piece.length, piece.words);
+  if (!is_inside(piece.start, piece.length, cue.length) || !is_inside(piece.first_word, piece.words, room.words_length)) {
+    fault(&walk, "outside text or words");
+    putchar('\n');
+    return walk.faults;
+  }
+  putchar('\n');
+  walk.piece = (struct text){cue.bytes + piece.start, (size_t)piece.length};
+  show_nodes(&walk, (struct span){room.words + piece.first_word, (size_t)piece.words}, piece.words > 0, 1);
+  return walk.faults;
+}
+
+/* The tree of every piece; the status to end with. */
+static int show_pieces(struct text cue, struct room room, uint64_t entries) {
+  uint64_t count = entries_within(room, entries);
+  size_t faults = 0;
+  for (uint64_t number = 0; number < count; number++)
+    faults += show_piece(cue, room, number);
+  return faults > 0 || count < entries ? STATUS_REFUSED : STATUS_FINE;
+}
+
+static int show(struct text cue) {
+  struct room room = {words, WORDS, directory, DIRECTORY_WORDS};
+  struct answer answer = read_text(cue, room);
+  if (answer.question) {
+    explain_refusal(cue, answer.question, answer.place);
+    return STATUS_REFUSED;
+  }
+  return show_pieces(cue, room, answer.entries);
+}
+
+int main(void) {
+  struct text cue;
+  int status = take_input("walk", stdin, "standard input", input, sizeof input, &cue);
+  return status ? status : finish("walk", show(cue));
+}

@@ -1,0 +1,100 @@
+//! Calls of a re-reading: edits of accepted texts, in rooms from exact to ample, and altered or hostile words, directories, counts
+//! and texts.
+
+use crate::full::{records, Records};
+use texts::mutate;
+use texts::rng::Rng;
+
+/// The inputs of one call.
+#[derive(Clone, Debug)]
+pub struct Call {
+    pub older: Vec<u8>,
+    pub newer: Vec<u8>,
+    pub words: Vec<u64>,
+    pub directory: Vec<u64>,
+    pub entries: u64,
+}
+
+/// An edit of a text, with its records in some room; none if it is not accepted.
+pub fn edit(rng: &mut Rng, older: &[u8]) -> Option<Call> {
+    let r = records(older).ok()?;
+    let newer = mutate::edit(rng, older);
+    Some(holding(r, older, newer, mutate::spare(rng)))
+}
+
+/// The same with a given newer text and room beyond the exact fit.
+pub fn call(older: &[u8], newer: Vec<u8>, spare: (usize, usize)) -> Option<Call> {
+    Some(holding(records(older).ok()?, older, newer, spare))
+}
+
+fn holding(r: Records, older: &[u8], newer: Vec<u8>, spare: (usize, usize)) -> Call {
+    let entries = r.entries() as u64;
+    let (mut words, mut directory) = (r.words, r.directory);
+    words.resize(words.len() + spare.0, 0);
+    directory.resize(directory.len() + spare.1, 0);
+    Call { older: older.to_vec(), newer, words, directory, entries }
+}
+
+/// Something in a call altered: the rule asks less of the older records than a reading gives.
+pub fn alter(rng: &mut Rng, call: &mut Call) {
+    for _ in 0..=rng.few(3) {
+        match rng.below(8) {
+            0 => one_word(rng, &mut call.words),
+            1 => one_word(rng, &mut call.directory),
+            2 => call.entries = other_count(rng, call.entries),
+            3 => move_border(rng, call),
+            4 => call.words.truncate(rng.below(call.words.len() + 1)),
+            5 => call.directory.truncate(rng.below(call.directory.len() + 1)),
+            6 => std::mem::swap(&mut call.older, &mut call.newer),
+            _ => empty_piece(rng, call),
+        }
+    }
+}
+
+fn other_count(rng: &mut Rng, count: u64) -> u64 {
+    rng.pick(&[0, 1, 2, count.wrapping_sub(1), count.wrapping_add(1), u64::MAX, 1 << 63, 1 << 32])
+}
+
+fn one_word(rng: &mut Rng, array: &mut [u64]) {
+    if array.is_empty() {
+        return;
+    }
+    let at = rng.below(array.len());
+    array[at] = match rng.below(4) {
+        0 => rng.bits(),
+        1 => array[at].wrapping_add(rng.pick(&[1, u64::MAX, 1 << 32])),
+        2 => 0,
+        _ => array[at] ^ 1 << rng.below(64),
+    };
+}
+
+/// The text or the words of two neighbours divided otherwise; question 22 still says yes.
+fn move_border(rng: &mut Rng, call: &mut Call) {
+    let pieces = call.directory.len() / 2;
+    if pieces < 2 {
+        return;
+    }
+    let (i, word) = (rng.below(pieces - 1), rng.below(2));
+    let (left, right) = (2 * i + word, 2 * i + 2 + word);
+    let by = 1 + rng.few(12) as u64;
+    let (a, b) = (call.directory[left], call.directory[right]);
+    if a as u32 as u64 >= by && rng.one_in(2) {
+        call.directory[left] = a - by;
+        call.directory[right] = b.wrapping_sub(by << 32).wrapping_add(by);
+    } else if b as u32 as u64 >= by {
+        call.directory[left] = a.wrapping_add(by);
+        call.directory[right] = b.wrapping_add(by << 32).wrapping_sub(by);
+    }
+}
+
+/// A piece of no length and no words put in at a border.
+fn empty_piece(rng: &mut Rng, call: &mut Call) {
+    let pieces = (call.entries as usize).min(call.directory.len() / 2);
+    if pieces == 0 {
+        return;
+    }
+    let i = rng.below(pieces);
+    let empty = [call.directory[2 * i] >> 32 << 32, call.directory[2 * i + 1] >> 32 << 32];
+    call.directory.splice(2 * i..2 * i, empty);
+    call.entries = call.entries.wrapping_add(1);
+}
