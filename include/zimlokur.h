@@ -5,7 +5,7 @@
  * array may be NULL. What is read is said in docs/SCOPE.md, what the words mean in docs/RECORDS.md, what a refusal means in
  * docs/QUESTIONS.md. The promise of each call is proved of the code (crates/zimlokur).
  *
- * The archive libzimlokur.a is for x86-64 Linux. A call needs at most some 50,000 bytes of stack (49,360 measured at the deepest text).
+ * The archive libzimlokur.a is for x86-64 Linux. A call needs some 52,000 bytes of stack (51,216 measured at the deepest text).
  * For a text of n bytes, n + n/3 words and n/3 + 2 directory words are enough (argued and measured; by the proofs 8n and 2n are:
  * docs/RECORDS.md); for a re-reading take the longer text. More room changes nothing but the zeros behind.
  */
