@@ -6,8 +6,8 @@
  * docs/QUESTIONS.md. The promise of each call is proved of the code (crates/zimlokur).
  *
  * The archive libzimlokur.a is for x86-64 Linux. A call needs some 52,000 bytes of stack (51,216 measured at the deepest text).
- * For a text of n bytes, n + n/3 words and n/3 + 2 directory words are enough (argued and measured; by the proofs 8n and 2n are:
- * docs/RECORDS.md); for a re-reading take the longer text. More room changes nothing but the zeros behind.
+ * For a text of n bytes, n + n/3 words and n/3 + 2 directory words are enough; this is argued by hand and measured, not proved. 8n and 2n
+ * follow by addition from bounds that are proved, and no theorem states them (docs/RECORDS.md). For a re-reading take the longer text. More room changes nothing but the zeros behind.
  */
 #ifndef ZIMLOKUR_H
 #define ZIMLOKUR_H
