@@ -18,10 +18,10 @@ pub fn hex_literal(h: Hex) -> Literal
     let bits = h.bits;
     let count = h.count;
     if count < 1 {
-        return Literal::Refused(7);
+        return Literal::Refused(records::Q_LITERAL);
     }
     if 16 < count {
-        return Literal::Refused(7);
+        return Literal::Refused(records::Q_LITERAL);
     }
     Literal::Float(bits)
 }
@@ -39,5 +39,5 @@ pub fn f0x_literal(h: Hex) -> Literal
     if count == 16 {
         return Literal::Float(bits);
     }
-    Literal::Refused(7)
+    Literal::Refused(records::Q_LITERAL)
 }

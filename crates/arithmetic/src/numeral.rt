@@ -143,7 +143,7 @@ fn float(s: Fold, neg: bool) -> Literal
             }
             Literal::Float(b)
         }
-        Decimal::Unsupported => Literal::Refused(17),
+        Decimal::Unsupported => Literal::Refused(records::Q_DECIMAL),
     }
 }
 
@@ -156,11 +156,11 @@ fn decimal(s: Fold, neg: bool) -> Literal
             if s.powered {
                 return float(s, neg);
             }
-            return Literal::Refused(7);
+            return Literal::Refused(records::Q_LITERAL);
         }
         return float(s, neg);
     }
-    Literal::Refused(7)
+    Literal::Refused(records::Q_LITERAL)
 }
 
 fn whole_literal(s: Fold, neg: bool) -> Literal
@@ -170,10 +170,10 @@ fn whole_literal(s: Fold, neg: bool) -> Literal
         let w = s.whole;
         return match signed(w, neg) {
             Integer::Value(h, l) => Literal::Int(h, l),
-            Integer::Refused => Literal::Refused(7),
+            Integer::Refused => Literal::Refused(records::Q_LITERAL),
         };
     }
-    Literal::Refused(7)
+    Literal::Refused(records::Q_LITERAL)
 }
 
 // What the numeral is, behind a minus or not; questions 7 and 17.

@@ -37,10 +37,10 @@ pub fn shift(n: Val, d: u8) -> Val
 {
     match n {
         Val::Exact(v) => {
-            if v <= 1844674407370955161 {
+            if v <= records::NUMBER_LIMIT / 10 {
                 let x = v * 10;
                 let y = d as u64;
-                if y <= 18446744073709551615 - x {
+                if y <= records::NUMBER_LIMIT - x {
                     Val::Exact(x + y)
                 } else {
                     Val::Over

@@ -65,7 +65,7 @@ fn word_statement(classes: &[u8; 256], text: &[u8], words: &mut [u64], p: Parsed
         };
     }
     let r = opcodes::statement_rank(classes, text, x.start, x.end);
-    if r < 4 {
+    if r < opcodes::S_STORE {
         let q3 = opcodes::terminator(classes, text, words, q, r);
         return Stated {
             p: q3,

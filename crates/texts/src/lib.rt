@@ -48,14 +48,17 @@ pub fn text_asked(text: &[u8]) -> Verdict
     Verdict::Fine
 }
 
-// 0 only where the 64 bytes at p and at q are the same. Nothing leaves the loop early.
+// Texts are compared by blocks of so many bytes first.
+const BLOCK: usize = 64;
+
+// 0 only where the blocks at p and at q are the same. Nothing leaves the loop early.
 fn differ(older: &[u8], newer: &[u8], p: usize, q: usize) -> u8
     requires { ⌜ (p + 64 ≤ length (now older)) × (q + 64 ≤ length (now newer)) ⌝ }
     ensures { λ r. ⌜ (r ≡ 0 → Same 64 p q (now (older .entry)) (now (newer .entry))) ⌝ }
 {
     let mut d: u8 = 0;
     let mut k: usize = 0;
-    while k < 64 {
+    while k < BLOCK {
         d = d | (older[p + k] ^ newer[q + k]);
         k += 1;
     }
@@ -67,14 +70,14 @@ fn common_blocks(older: &[u8], newer: &[u8]) -> usize
     ensures { λ r. ⌜ Shares (now (older .entry)) (now (newer .entry)) r ⌝ }
 {
     let mut i: usize = 0;
-    while 64 <= older.len() - i {
-        if newer.len() - i < 64 {
+    while BLOCK <= older.len() - i {
+        if newer.len() - i < BLOCK {
             return i;
         }
         if differ(older, newer, i, i) != 0 {
             return i;
         }
-        i += 64;
+        i += BLOCK;
     }
     i
 }
@@ -102,14 +105,14 @@ fn end_blocks(older: &[u8], newer: &[u8], a: usize) -> usize
     ensures { λ r. ⌜ Ends (now (older .entry)) (now (newer .entry)) a r ⌝ }
 {
     let mut c: usize = 0;
-    while 64 <= older.len() - a - c {
-        if newer.len() - a - c < 64 {
+    while BLOCK <= older.len() - a - c {
+        if newer.len() - a - c < BLOCK {
             return c;
         }
-        if differ(older, newer, older.len() - c - 64, newer.len() - c - 64) != 0 {
+        if differ(older, newer, older.len() - c - BLOCK, newer.len() - c - BLOCK) != 0 {
             return c;
         }
-        c += 64;
+        c += BLOCK;
     }
     c
 }
