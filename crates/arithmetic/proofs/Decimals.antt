@@ -20,9 +20,9 @@ use Rattle.grammar.specs.Numbers.{valueOf, countDigits, zerosOf, scaledBits, de
 use Rattle.records.specs.Limits.{numberLimit}
 use Rattle.arithmetic.specs.Decimals.{counted, noDigits, fewDigits, significantPushed, digitPushed, poweredBits, exponentBits, floatIn}
 use Rattle.arithmetic.specs.Folds.{folded, allDigits}
-use Rattle.lexer.specs.Number.{capped, shifted}
+use Rattle.arithmetic.specs.Number.{capped, shifted}
 use Rattle.arithmetic.specs.declared.mantissa.Mantissa.{Mantissa}
-use Rattle.lexer.specs.declared.Val.{Val}
+use Rattle.arithmetic.specs.declared.number.Val.{Val}
 use Rattle.arithmetic.proofs.Folds.{and-left, and-right}
 use Rattle.arithmetic.proofs.Integers.{number-value}
 use Rattle.arithmetic.proofs.Scale.{counted-same, counted-most, no-digits, no-high, no-low}

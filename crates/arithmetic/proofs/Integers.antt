@@ -13,8 +13,8 @@ use Rattle.grammar.specs.Numbers.{valueOf, largest, twos}
 use Rattle.arithmetic.specs.Folds.{folded}
 use Rattle.arithmetic.specs.Integers.{magnitudeOf, pushed, signedOf, wordsOf}
 use Rattle.arithmetic.specs.declared.integer.Integer.the-variants.{Refused}
-use Rattle.lexer.specs.Number.{capped, shifted}
-use Rattle.lexer.proofs.Count.{shifted-more}
+use Rattle.arithmetic.specs.Number.{capped, shifted}
+use Rattle.arithmetic.proofs.Shifts.{shifted-more}
 use Rattle.arithmetic.proofs.Folds.{holds-value}
 
 more : (v d : ℕ) → v ≤ v * 10 + d

@@ -11,3 +11,4 @@ pub mod Powers
 pub mod Scale
 pub mod Scans
 pub mod Widen
+pub mod Shifts

@@ -17,7 +17,7 @@ use Rattle.grammar.specs.Numbers.{Numeral, valueOf, largest, twos, halves, isFl
 use Rattle.arithmetic.specs.Decimals.{counted, digitPushed}
 use Rattle.arithmetic.specs.Folds.{folded, begins}
 use Rattle.arithmetic.specs.Integers.{magnitudeOf, pushed, signedOf, wordsOf}
-use Rattle.lexer.specs.Number.{capped, shifted}
+use Rattle.arithmetic.specs.Number.{capped, shifted}
 use Rattle.arithmetic.specs.Literals.{given}
 use Rattle.arithmetic.specs.Numerals.{started, wholePushed, pointPassed, partPushed, exponentPassed, powerPushed, exponentOf, partOf, foldOf, floatLiteral, decimalIn, wordsLiteral, integerIn, literalIn, Written}
 use Rattle.arithmetic.specs.declared.integer.Integer.the-variants.{Refused as Out}

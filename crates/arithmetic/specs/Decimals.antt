@@ -13,8 +13,8 @@ use Rattle.arithmetic.specs.declared.decimal.Decimal.{Decimal}
 use Rattle.arithmetic.specs.declared.decimal.Parts.{Parts}
 use Rattle.arithmetic.specs.declared.decimal.Significand.{Significand}
 use Rattle.arithmetic.specs.declared.mantissa.Mantissa.{Mantissa}
-use Rattle.lexer.specs.declared.Val.the-variants.{Exact, Over}
-use Rattle.lexer.specs.declared.Val.{Val}
+use Rattle.arithmetic.specs.declared.number.Val.the-variants.{Exact, Over}
+use Rattle.arithmetic.specs.declared.number.Val.{Val}
 
 -- a number's parts by d are p
 pub record Doubled (q rest d : ℕ) (p : Parts) : Type 0 where

@@ -4,3 +4,4 @@ pub mod Hex
 pub mod Integers
 pub mod Literals
 pub mod Numerals
+pub mod Number

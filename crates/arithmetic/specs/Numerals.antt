@@ -11,7 +11,7 @@ use Rattle.grammar.specs.Numbers.{Numeral, signed}
 use Rattle.arithmetic.specs.Decimals.{counted, noDigits, digitPushed, floatIn}
 use Rattle.arithmetic.specs.Folds.{folded, allDigits, begins}
 use Rattle.arithmetic.specs.Integers.{magnitudeOf, pushed, signedOf}
-use Rattle.lexer.specs.Number.{capped, shifted}
+use Rattle.arithmetic.specs.Number.{capped, shifted}
 use Rattle.arithmetic.specs.declared.integer.Integer.the-variants.{Value, Refused as Out}
 use Rattle.arithmetic.specs.declared.integer.Integer.{Integer}
 use Rattle.arithmetic.specs.declared.literal.Literal.the-variants.{Int, Float, Refused}

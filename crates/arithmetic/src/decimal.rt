@@ -2,7 +2,7 @@
 // digits without outer zeros, times ten to the -22 up to 22."
 use crate::mantissa::Mantissa;
 use crate::mantissa::count;
-use lexer::Val;
+use crate::number::Val;
 ghost use mathlib.Core.Path.{_≡_};
 ghost use Prim.Native.Nat.{_+_, _-_, _*_, _/_, _%_, _^_, _<_, _≤_};
 ghost use Rattle.grammar.specs.Numbers.{rounded, nearest, scaledBits};

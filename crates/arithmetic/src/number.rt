@@ -1,7 +1,12 @@
-// Whole numbers of up to 64 bits (`lexer::Val`): a decimal's exponent is one.
-use lexer::Val;
+// Whole numbers of up to 64 bits: a width, an index, a decimal's exponent.
 ghost use mathlib.Core.Path.{_≡_};
-ghost use Rattle.lexer.specs.Number.{capped};
+ghost use Rattle.arithmetic.specs.Number.{capped, shifted};
+
+// A number, or one that 64 bits do not hold.
+pub enum Val {
+    Exact(u64),
+    Over,
+}
 
 // Before the first digit.
 pub fn none() -> Val
@@ -15,4 +20,26 @@ pub fn wide(x: u8) -> u64
     ensures { λ r. ⌜ r ≡ x ⌝ }
 {
     x as u64
+}
+
+// One digit more.
+pub fn shift(n: Val, d: u8) -> Val
+    ensures { λ r. ⌜ r ≡ shifted n d ⌝ }
+{
+    match n {
+        Val::Exact(v) => {
+            if v <= records::NUMBER_LIMIT / 10 {
+                let x = v * 10;
+                let y = d as u64;
+                if y <= records::NUMBER_LIMIT - x {
+                    Val::Exact(x + y)
+                } else {
+                    Val::Over
+                }
+            } else {
+                Val::Over
+            }
+        }
+        Val::Over => Val::Over,
+    }
 }

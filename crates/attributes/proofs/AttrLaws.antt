@@ -15,7 +15,7 @@ use Rattle.lexer.specs.Step.{looksP}
 use Rattle.lexer.specs.Reads.{Aim, Finds}
 use Rattle.lexer.specs.declared.Parsed.{Parsed}
 use Rattle.grammar.specs.Attributes.{groupStep}
-use Rattle.lexer.proofs.Scan.{drop-next}
+use Rattle.program.specs.Lists.{drop-next}
 
 module _ (s : List ℕ) (i r : ℕ) (h : i < length s) (e : r ≡ classOf (getD s i 0)) where
   pub group-stop : 10 ≤ r → i + scanLen groupStep 0 (drop i s) ≡ i

@@ -1,8 +1,8 @@
 // Attributes, linkage, calling conventions and flags: what is read and dropped (parser.rs, "Attribute / token skipping helpers").
 // A table is one byte string with its words one behind the other, and their lengths.
+use keywords::Ranked;
 use lexer::Cursor;
 use lexer::Parsed;
-use lexer::Ranked;
 use lexer::limits;
 ghost use mathlib.Core.Path.{_≡_};
 ghost use Prim.Native.Nat.{_+_};
@@ -45,7 +45,7 @@ fn paren_attr(classes: &[u8; 256], text: &[u8], p: Parsed) -> Ranked
         11,
         14,
     ];
-    lexer::match_rank(
+    keywords::match_rank(
         classes,
         text,
         p,
@@ -125,7 +125,7 @@ fn flag_attr(classes: &[u8; 256], text: &[u8], p: Parsed) -> Ranked
         15,
         15,
     ];
-    lexer::match_rank(
+    keywords::match_rank(
         classes,
         text,
         p,
@@ -140,7 +140,7 @@ fn linkage(classes: &[u8; 256], text: &[u8], p: Parsed) -> Ranked
     ensures { λ r. ⌜ (r .r ≡ rankP linkages (now (text .entry)) p) × (r .p ≡ rankedP linkages (now (text .entry)) p) ⌝ }
 {
     let lens: [u8; 11] = [7, 8, 20, 8, 4, 6, 9, 11, 12, 8, 8];
-    lexer::match_rank(
+    keywords::match_rank(
         classes,
         text,
         p,
@@ -155,7 +155,7 @@ fn cconv(classes: &[u8; 256], text: &[u8], p: Parsed) -> Ranked
     ensures { λ r. ⌜ (r .r ≡ rankP callingConventions (now (text .entry)) p) × (r .p ≡ rankedP callingConventions (now (text .entry)) p) ⌝ }
 {
     let lens: [u8; 10] = [3, 6, 6, 6, 7, 11, 8, 15, 14, 14];
-    lexer::match_rank(
+    keywords::match_rank(
         classes,
         text,
         p,
@@ -170,7 +170,7 @@ fn no_attr(classes: &[u8; 256], text: &[u8], p: Parsed) -> Ranked
     ensures { λ r. ⌜ (r .r ≡ rankP noAttrs (now (text .entry)) p) × (r .p ≡ rankedP noAttrs (now (text .entry)) p) ⌝ }
 {
     let lens: [u8; 8] = [3, 4, 2, 3, 5, 4, 4, 6];
-    lexer::match_rank(classes, text, p, &lens, b"ptrvoidbrretstorecalltailswitch")
+    keywords::match_rank(classes, text, p, &lens, b"ptrvoidbrretstorecalltailswitch")
 }
 
 // Flags of integer arithmetic.
@@ -179,7 +179,7 @@ pub fn skip_arith_flags(classes: &[u8; 256], text: &[u8], p: Parsed) -> Parsed
     ensures { λ r. ⌜ Gives skipArithFlags tt (now (text .entry)) p r ⌝ }
 {
     let lens: [u8; 4] = [3, 3, 5, 8];
-    lexer::skip_all(classes, text, p, &lens, b"nuwnswexactdisjoint")
+    keywords::skip_all(classes, text, p, &lens, b"nuwnswexactdisjoint")
 }
 
 // Fast-math flags.
@@ -188,7 +188,7 @@ pub fn skip_fast_math_flags(classes: &[u8; 256], text: &[u8], p: Parsed) -> Pars
     ensures { λ r. ⌜ Gives skipFastMathFlags tt (now (text .entry)) p r ⌝ }
 {
     let lens: [u8; 8] = [4, 4, 4, 3, 4, 8, 3, 7];
-    lexer::skip_all(
+    keywords::skip_all(
         classes,
         text,
         p,
@@ -203,7 +203,7 @@ pub fn skip_conv_flags(classes: &[u8; 256], text: &[u8], p: Parsed) -> Parsed
     ensures { λ r. ⌜ Gives (skipAll turns convFlags) tt (now (text .entry)) p r ⌝ }
 {
     let lens: [u8; 3] = [4, 3, 3];
-    lexer::skip_all(classes, text, p, &lens, b"nnegnuwnsw")
+    keywords::skip_all(classes, text, p, &lens, b"nnegnuwnsw")
 }
 
 // A linkage's rank, 10 when unwritten (`parse_linkage`).
@@ -238,7 +238,7 @@ pub fn skip_call_cconv(classes: &[u8; 256], text: &[u8], p: Parsed) -> Parsed
     if lexer::word(classes, text, q1, b"cc") {
         let q2 = lexer::pass_word(text, q1, b"cc");
         let q3 = lexer::eat_ws(classes, text, q2);
-        let n = lexer::parse_int(classes, text, q3, 0, records::NUMBER_LIMIT);
+        let n = numbers::parse_int(classes, text, q3, 0, records::NUMBER_LIMIT);
         return n.p;
     }
     q1
@@ -357,7 +357,7 @@ fn attr_step(classes: &[u8; 256], text: &[u8], p: Parsed) -> Passed
     if lexer::word(classes, text, q5, b"align") {
         let q7 = lexer::pass_word(text, q5, b"align");
         let q8 = lexer::eat_ws(classes, text, q7);
-        let n = lexer::parse_int(classes, text, q8, 0, records::NUMBER_LIMIT);
+        let n = numbers::parse_int(classes, text, q8, 0, records::NUMBER_LIMIT);
         let q9 = n.p;
         return Passed { p: q9, more: true };
     }

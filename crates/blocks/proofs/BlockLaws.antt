@@ -25,13 +25,14 @@ use Rattle.lexer.specs.declared.Parsed.{Parsed}
 use Rattle.lexer.specs.declared.Parsed.the-variants.{Ok, Refused}
 use Rattle.lexer.proofs.Laws.{after, bind-at, true-false, at-less, at-part, at-whole, val, place-then, place-at, fail-is, stay, more, no-more, some-byte, pass-in}
 use Rattle.writer.proofs.Laws.{push-then}
-use Rattle.statements.proofs.OpcodeLaws.{turn}
+use Rattle.lexer.proofs.Laws.{turn}
 use Rattle.operands.specs.Rich.{Rich, richly}
 use Rattle.operands.proofs.RichLaws.{enrich}
 use Rattle.directory.specs.Piece.{BlockIs, is-block, is-tail, no-block, Holds}
 use Rattle.directory.specs.declared.pieces.Piece.{Piece}
 use Rattle.statements.specs.Stated.{Which, a-label, an-instruction, a-terminator, StatementEnds, stated-at, no-statement, stated}
-use Rattle.blocks.specs.Bodied.{BodyEnds, through, shut, no-body, bodied, asBlock, asTail}
+use Rattle.blocks.specs.Bodied.{BodyEnds, through, shut, no-body, bodied}
+use Rattle.closing.specs.Pieces.{pieceOf, tailOf}
 
 -- ---- a statement, then the rest
 -- which hands a refusal on
@@ -147,23 +148,6 @@ pub body-out : {f : Prog (List ℕ)} {text w0 w : List ℕ} {p0 q q2 : Parsed} {
 unfolding parseBody
 body-out left l n over inv h e = go-on-rich inv (λ ws. no-more (λ u. parseBody u l n over ws) left h (fail-is 8 e))
 
--- a block's node, or 19
-module _ (l n over : ℕ) (acc term : List ℕ) where
-  finish-by : (z y : Bool) → ltb n 65535 ≡ z → ltb 65535 n ≡ y → finishBlock l n over acc term ≡ elim z [ true ↦ ret (node (kind Block) 0 (n + 1) (l ∷ (acc ++ term))) | false ↦ elim y [ true ↦ fail 19 over | false ↦ refuse 19 ] ]
-  unfolding finishBlock
-  finish-by z y e t =
-      ap (λ (x : Bool). elim x [ true ↦ ret (node (kind Block) 0 (n + 1) (l ∷ (acc ++ term))) | false ↦ elim (ltb 65535 n) [ true ↦ fail 19 over | false ↦ refuse 19 ] ]) e ∙
-      ap (λ (x : Bool). elim z [ true ↦ ret (node (kind Block) 0 (n + 1) (l ∷ (acc ++ term))) | false ↦ elim x [ true ↦ fail 19 over | false ↦ refuse 19 ] ]) t
-
-  pub finish-in : n < 65535 → finishBlock l n over acc term ≡ ret (node (kind Block) 0 (n + 1) (l ∷ (acc ++ term)))
-  finish-in h = finish-by true (ltb 65535 n) (lt-ltb n 65535 h) refl
-
-  pub finish-over : 65535 < n → finishBlock l n over acc term ≡ fail 19 over
-  finish-over h = finish-by false true (le-ltb n 65535 (omega arith)) (lt-ltb 65535 n h)
-
-  pub finish-full : 65535 ≤ n → n ≤ 65535 → finishBlock l n over acc term ≡ refuse 19
-  finish-full h k = finish-by false false (le-ltb n 65535 h) (le-ltb 65535 n k)
-
 -- ---- a piece
 -- each byte pays for six words, two slots are free
 start : Budget
@@ -238,23 +222,23 @@ module _ {f : Prog (List ℕ)} {tail : Bool} {l n over c : ℕ} {mid : List ℕ}
       go b low k a o (no-body {e = e} {q = x}) = rw (o [] [] .hands e x refl) no-piece
 
 -- what a piece's start gives
-tail-answer : {b : Budget} {text low : List ℕ} {p0 : Parsed} {k : ℕ} {r : Res (List ℕ)} {p : Parsed} {words : List ℕ} → PieceEnds true b text p0 k low r p words → BlockIs (blockOf r) (asTail p) words
+tail-answer : {b : Budget} {text low : List ℕ} {p0 : Parsed} {k : ℕ} {r : Res (List ℕ)} {p : Parsed} {words : List ℕ} → PieceEnds true b text p0 k low r p words → BlockIs (blockOf r) (tailOf p) words
 unfolding blockOf
 tail-answer (blocked e a) = true-false (sym e)
 tail-answer (tailed e) = is-tail
 tail-answer no-piece = no-block
 
-block-answer : {b : Budget} {text : List ℕ} {p0 : Parsed} {k : ℕ} {r : Res (List ℕ)} {p : Parsed} {words : List ℕ} → PieceEnds false b text p0 k [] r p words → BlockIs (blockOf r) (asBlock p) words
+block-answer : {b : Budget} {text : List ℕ} {p0 : Parsed} {k : ℕ} {r : Res (List ℕ)} {p : Parsed} {words : List ℕ} → PieceEnds false b text p0 k [] r p words → BlockIs (blockOf r) (pieceOf p) words
 unfolding blockOf
 block-answer (blocked {ws = ws} {words = words} e a) = is-block (a .count) (held ws words (a .stands))
 block-answer (tailed e) = true-false e
 block-answer no-piece = no-block
 
 module _ {text w1 w2 v : List ℕ} (w : List ℕ) {p1 p2 q : Parsed} {tail : Bool} {l n over : ℕ} (small : length text ≤ 16777216) (o1 : (p1 ≡ pushed origin) × (w1 ≡ pushes 0 origin w)) (o2 : (p2 ≡ pushed p1) × (w2 ≡ pushes 0 p1 w1)) (r : Leads (parseBody 16777217 0 0 0 []) 0 [] (richly text (bodied tail l n over text p2)) text p2 p2 w2 q v) where
-  pub tail-is : {x : Piece} → tail ≡ true → x ≡ asTail q → BlockIs (blockAt text) x v
+  pub tail-is : {x : Piece} → tail ≡ true → x ≡ tailOf q → BlockIs (blockAt text) x v
   unfolding parseBlock blockAt blockRead
   tail-is {x} t e = subst (λ (y : Piece). BlockIs (blockOf (run parseBlock 0 text)) y v) (sym e) (tail-answer (whole w small o1 o2 (tail-then r t)))
 
-  pub block-is : {p′ : Parsed} {v′ : List ℕ} {x : Piece} → tail ≡ false → ((text acc term : List ℕ) → Leads (finishBlock l n over acc term) 0 (0 ∷ (0 ∷ (acc ++ term))) (made same text origin) text origin q v p′ v′) → x ≡ asBlock p′ → BlockIs (blockAt text) x v′
+  pub block-is : {p′ : Parsed} {v′ : List ℕ} {x : Piece} → tail ≡ false → ((text acc term : List ℕ) → Leads (finishBlock l n over acc term) 0 (0 ∷ (0 ∷ (acc ++ term))) (made same text origin) text origin q v p′ v′) → x ≡ pieceOf p′ → BlockIs (blockAt text) x v′
   unfolding parseBlock blockAt blockRead
   block-is {p′} {v′} {x} t k e = subst (λ (y : Piece). BlockIs (blockOf (run parseBlock 0 text)) y v′) (sym e) (block-answer (whole w small o1 o2 (block-then r t (k text))))

@@ -1,4 +1,4 @@
--- What the code holds of a body, and its answer as a piece.
+-- What the code holds of a body.
 -- Assumes nothing.
 use mathlib.Core.Path.{_≡_}
 use mathlib.Core.Bool.{Bool, true, false}
@@ -11,8 +11,6 @@ use Rattle.lexer.specs.Reads.{Budget, At, Goal}
 use Rattle.lexer.specs.declared.Cursor.{Cursor}
 use Rattle.lexer.specs.declared.Parsed.{Parsed}
 use Rattle.lexer.specs.declared.Parsed.the-variants.{Ok, Refused}
-use Rattle.directory.specs.declared.pieces.Piece.{Piece}
-use Rattle.directory.specs.declared.pieces.Piece.the-variants.{Read, Tail, Refused as NoPiece}
 
 -- A body was read up to its `}`, or through a terminator, behind which the block is to be finished: its instructions' words and the
 -- terminator's stand there.
@@ -23,12 +21,3 @@ pub data BodyEnds (tail : Bool) (l n over : ℕ) (b : Budget) (text : List ℕ) 
 
 abbrev pub bodied : Bool → ℕ → ℕ → ℕ → List ℕ → Parsed → Goal (List ℕ)
 bodied tail l n over text p0 = record { ends = λ b k low r p words. BodyEnds tail l n over b text p0 k low r p words; outs = λ b k low e q words. no-body }
-
--- the answer of a reader as a block, and as the tail
-abbrev pub asBlock : Parsed → Piece
-asBlock (Ok c) = Read (c .at) (c .w)
-asBlock (Refused e q) = NoPiece e q
-
-abbrev pub asTail : Parsed → Piece
-asTail (Ok c) = Tail (c .at)
-asTail (Refused e q) = NoPiece e q

@@ -3,20 +3,17 @@ use directory::pieces::Piece;
 use lexer::Cursor;
 use lexer::Parsed;
 ghost use mathlib.Core.Path.{_≡_};
-ghost use mathlib.Core.List.{List, [], _∷_, _++_};
-ghost use Prim.Native.Nat.{ℕ, _≤_};
+ghost use mathlib.Core.List.{[]};
+ghost use Prim.Native.Nat.{_≤_};
 ghost use lib.ListN.{length};
 ghost use Rattle.records.specs.Limits.{turns};
-ghost use Rattle.grammar.specs.Body.{overAt, finishBlock, parseBody};
+ghost use Rattle.grammar.specs.Body.{parseBody};
 ghost use Rattle.grammar.specs.Function.{blockAt};
 ghost use Rattle.lexer.specs.Table.{Classes};
-ghost use Rattle.lexer.specs.Reads.{Leads, made, same};
+ghost use Rattle.lexer.specs.Reads.{Leads};
 ghost use Rattle.operands.specs.Rich.{richly};
 ghost use Rattle.directory.specs.Piece.{BlockIs};
-ghost use Rattle.blocks.specs.Bodied.{bodied, asBlock, asTail};
-
-// Question 19, for a count that goes past it.
-const CHILDREN: usize = records::CHILD_LIMIT as usize;
+ghost use Rattle.blocks.specs.Bodied.{bodied};
 
 // Where the reader is behind a body: is it the tail; else the last label, how many instructions, the place behind the 65,536th.
 pub struct Body {
@@ -25,13 +22,6 @@ pub struct Body {
     pub label: u64,
     pub n: usize,
     pub over: usize,
-}
-
-// The place behind the 65,536th instruction, once it is read.
-fn over_at(n: usize, over: usize, at: usize) -> usize
-    ensures { λ r. ⌜ r ≡ overAt n over at ⌝ }
-{
-    if n == CHILDREN { at } else { over }
 }
 
 // Statements through a terminator or `}`.
@@ -68,7 +58,7 @@ fn parse_body(classes: &[u8; 256], text: &[u8], words: &mut [u64], p: Parsed) ->
             if kind == statements::INSTRUCTION {
                 let at = lexer::place(r3);
                 q = r3;
-                over = over_at(n, over, at);
+                over = closing::over_at(n, over, at);
                 n += 1;
                 left -= 1;
             } else {
@@ -92,48 +82,6 @@ fn parse_body(classes: &[u8; 256], text: &[u8], words: &mut [u64], p: Parsed) ->
     }
 }
 
-// The block that was begun at p0: its label, and its header, or 19.
-fn finish_block(
-    words: &mut [u64],
-    p0: Parsed,
-    p: Parsed,
-    label: u64,
-    n: usize,
-    over: usize,
-) -> Parsed
-    ensures { λ r. ⌜ ((text acc term : List ℕ) → Leads (finishBlock label n over acc term) 0 (0 ∷ (0 ∷ (acc ++ term))) (made same text p0) text p0 p (now (words .entry)) r (now (words .exit))) ⌝ }
-{
-    if n < CHILDREN {
-        let p1 = writer::patch(words, p0, p, 1, label);
-        let m = (n + 1) as u16;
-        return writer::close(words, p0, p1, records::K_BLOCK, 0, m);
-    }
-    if CHILDREN < n {
-        return lexer::refuse_at(p, records::Q_CHILDREN, over);
-    }
-    lexer::refuse(p, records::Q_CHILDREN)
-}
-
-// The answer of a reader, as a block.
-fn as_block(p: Parsed) -> Piece
-    ensures { λ r. ⌜ r ≡ asBlock p ⌝ }
-{
-    match p {
-        Parsed::Ok(c) => Piece::Read(c.at, c.w),
-        Parsed::Refused(e, q) => Piece::Refused(e, q as u64),
-    }
-}
-
-// The answer of a reader, as the tail.
-fn as_tail(p: Parsed) -> Piece
-    ensures { λ r. ⌜ r ≡ asTail p ⌝ }
-{
-    match p {
-        Parsed::Ok(c) => Piece::Tail(c.at),
-        Parsed::Refused(e, q) => Piece::Refused(e, q as u64),
-    }
-}
-
 // A block or the tail, from the start of the text, its words from the start of the array: slots for the header and the label, the
 // instructions and the terminator.
 pub fn parse_block(classes: &[u8; 256], text: &[u8], words: &mut [u64]) -> Piece
@@ -146,8 +94,8 @@ pub fn parse_block(classes: &[u8; 256], text: &[u8], words: &mut [u64]) -> Piece
     let b = parse_body(classes, text, words, r1);
     let q = b.p;
     if b.tail {
-        return as_tail(q);
+        return closing::tail_of(q);
     }
-    let r2 = finish_block(words, p, q, b.label, b.n, b.over);
-    as_block(r2)
+    let r2 = closing::finish_block(words, p, q, b.label, b.n, b.over);
+    closing::piece_of(r2)
 }

@@ -10,11 +10,21 @@ use native.Mathlib.Nat.{add-zero, zero-add, add-assoc}
 use native.Mathlib.Omega.{arith}
 use lib.Dec.{leb, eqb}
 use lib.ListN.{length, take, drop, getD, drop-of-length-le}
+use lib.Seq.{drop-cons}
 use borrow.Author.Tests.{leb-true, eqb-true}
 use Rattle.records.specs.Limits.{halfLimit}
 use Rattle.records.specs.Words.{hi, lo}
 use Rattle.records.specs.Pieces.{Old, old, chain, consOld, olds, oldSizes, oldWords}
 use Rattle.directory.specs.Olds.{answers, oldsOf, Chained}
+
+-- two words of the directory, and what is behind them
+pub drop-entry : (dir : List ℕ) (i : ℕ) → i * 2 + 1 < length dir → drop (i * 2) dir ≡ getD dir (i * 2) 0 ∷ getD dir (i * 2 + 1) 0 ∷ drop (suc i * 2) dir
+drop-entry dir i h =
+    let a : suc (i * 2) ≡ i * 2 + 1 = omega arith in
+    let b : suc (i * 2 + 1) ≡ suc i * 2 = omega arith in
+    drop-cons dir (i * 2) 0 (omega arith)
+    ∙ ap {B = List ℕ} (λ t. getD dir (i * 2) 0 ∷ t)
+    (ap (λ (k : ℕ). drop k dir) a ∙ drop-cons dir (i * 2 + 1) 0 h ∙ ap {B = List ℕ} (λ t. getD dir (i * 2 + 1) 0 ∷ drop t dir) b)
 
 -- ---- sums over pieces
 pub sizes-split : (j : ℕ) (os : List Old) → oldSizes os ≡ oldSizes (take j os) + oldSizes (drop j os)

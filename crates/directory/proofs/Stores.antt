@@ -1,7 +1,7 @@
 -- Stores into a list, one element at a time.
 -- By induction on the list: a store changes one element.
 -- Assumes nothing.
-use mathlib.Core.Path.{_≡_, sym, ap, _∙_}
+use mathlib.Core.Path.{_≡_, refl, sym, ap, _∙_}
 use mathlib.Core.List.{List, [], _∷_, _++_, append-assoc, append-nil}
 use Prim.Native.Nat.{ℕ, suc, _+_, _-_, _≤_, _<_}
 use native.Mathlib.Numerals.{add-one}
@@ -9,8 +9,14 @@ use native.Mathlib.Nat.{add-zero, sub-zero}
 use native.Mathlib.Omega.{arith}
 use lib.ListN.{length, getD, take, drop, set, replicate, length-append, length-replicate, drop-of-length-le, replicate-append-replicate, take-append-drop, length-drop, List·getD-append}
 use lib.Seq.{drop-cons, set-at, append-snoc, length-take-le, paste, paste-suc, length-paste-head, getD-append-add, getD-drop, getD-take, take-suc, take-add}
+use Rattle.records.specs.Pieces.{pad}
 
 -- ---- zeros from `from` up to i
+-- from 0 on: what a refusal leaves
+pub cleared : (l : List ℕ) → take 0 l ++ replicate (length l - 0) 0 ≡ pad (length l) []
+unfolding pad
+cleared l = refl
+
 abbrev pub zeros : List ℕ → (from i : ℕ) → List ℕ
 zeros d from i = take from d ++ replicate (i - from) 0 ++ drop i d
 

@@ -2,11 +2,11 @@
 use crate::pieces::Size;
 use crate::pieces::Spot;
 ghost use mathlib.Core.Path.{_≡_};
-ghost use mathlib.Core.List.{_++_};
+ghost use mathlib.Core.List.{[], _++_};
 ghost use Prim.Native.Nat.{_+_, _-_, _*_, _≤_, _<_};
 ghost use lib.ListN.{length, take, drop, replicate, set};
 ghost use lib.Seq.{paste};
-ghost use Rattle.records.specs.Pieces.{oldSizes, oldWords};
+ghost use Rattle.records.specs.Pieces.{oldSizes, oldWords, pad};
 ghost use Rattle.records.specs.Limits.{halfLimit};
 ghost use Rattle.records.specs.Words.{pack};
 ghost use Rattle.directory.specs.Olds.{oldsOf, moved};
@@ -20,6 +20,14 @@ pub fn clear(words: &mut [u64], from: usize)
         words[i] = 0;
         i += 1;
     }
+}
+
+// A refusal leaves zeros.
+pub fn wipe(words: &mut [u64], directory: &mut [u64])
+    ensures { λ r. ⌜ (now (words .exit) ≡ pad (length (now (words .entry))) []) × (now (directory .exit) ≡ pad (length (now (directory .entry))) []) ⌝ }
+{
+    clear(words, 0);
+    clear(directory, 0);
 }
 
 // "A directory entry is two words: start 32, length 32; first word 32, word count 32." Of the piece that stands there, where question 21 was asked.

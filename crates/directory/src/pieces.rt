@@ -20,3 +20,9 @@ pub enum Piece {
     Tail(usize),
     Refused(u64, u64),
 }
+
+// The older records: how many entries the directory has, and how many words are lent.
+pub struct Older {
+    pub entries: usize,
+    pub words: usize,
+}

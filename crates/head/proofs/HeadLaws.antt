@@ -33,7 +33,8 @@ use Rattle.lexer.proofs.Children.{nest, g-room, in-room}
 use Rattle.types.specs.Reading.{TypeEnds, read, back, none, typed}
 use Rattle.types.proofs.TypeLaws.{Stuck, space-run, byte-run-no, fail-run, attrs-run, stuck-comma, stuck-room, comma-stop, dots-turn}
 use Rattle.directory.specs.Piece.{HeadIs, is-head, no-head}
-use Rattle.head.specs.Reading.{ParamEnds, read as has, back as stops, none as bad-one, parameter, Shut, shut, bad, shuts, pieceOf}
+use Rattle.head.specs.Reading.{ParamEnds, read as has, back as stops, none as bad-one, parameter, Shut, shut, bad, shuts}
+use Rattle.closing.specs.Pieces.{pieceOf}
 
 -- ---- words that are paid for beforehand
 -- d words more are paid for where the goal is reached

@@ -9,8 +9,6 @@ use Rattle.lexer.specs.Reads.{Budget, At, Goal}
 use Rattle.lexer.specs.declared.Cursor.{Cursor}
 use Rattle.lexer.specs.declared.Parsed.{Parsed}
 use Rattle.lexer.specs.declared.Parsed.the-variants.{Ok, Refused}
-use Rattle.directory.specs.declared.pieces.Piece.{Piece}
-use Rattle.directory.specs.declared.pieces.Piece.the-variants.{Read, Refused as Refusal}
 
 -- A parameter is read; or its type has a list behind it, and the cursor is at the parenthesis, which every reader behind a parameter refuses.
 pub data ParamEnds (q : ℕ) (b : Budget) (text : List ℕ) (p0 : Parsed) (k : ℕ) (low : List ℕ) : Res (List ℕ) → Parsed → List ℕ → Type 0 where
@@ -28,8 +26,3 @@ pub data Shut (b : Budget) (text : List ℕ) (p0 : Parsed) (k : ℕ) (low : List
 
 abbrev pub shuts : List ℕ → Parsed → Goal (List ℕ)
 shuts text p0 = record { ends = λ b k low r p words. Shut b text p0 k low r p words; outs = λ b k low e q words. bad }
-
--- the answer of a piece that is closed: its length and the number of its words
-abbrev pub pieceOf : Parsed → Piece
-pieceOf (Ok c) = Read (c .at) (c .w)
-pieceOf (Refused e q) = Refusal e q

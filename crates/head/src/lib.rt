@@ -13,7 +13,7 @@ ghost use Rattle.grammar.specs.Function.{headAt};
 ghost use Rattle.lexer.specs.Table.{Classes};
 ghost use Rattle.lexer.specs.Reads.{Leads, made};
 ghost use Rattle.directory.specs.Piece.{HeadIs};
-ghost use Rattle.head.specs.Reading.{parameter, shuts, pieceOf};
+ghost use Rattle.head.specs.Reading.{parameter, shuts};
 
 // A parameter: a type, attributes, and a name where one stands. The name's word stands before the type's.
 fn parse_param(classes: &[u8; 256], text: &[u8], words: &mut [u64], p: Parsed) -> Parsed
@@ -118,16 +118,6 @@ fn head_node(classes: &[u8; 256], text: &[u8], words: &mut [u64], p: Parsed) -> 
     lexer::refuse(q, records::Q_TOKEN)
 }
 
-// The answer of a piece that is closed.
-fn piece_of(p: Parsed) -> Piece
-    ensures { λ r. ⌜ r ≡ pieceOf p ⌝ }
-{
-    match p {
-        Parsed::Ok(c) => Piece::Read(c.at, c.w),
-        Parsed::Refused(e, q) => Piece::Refused(e, q as u64),
-    }
-}
-
 // The head at the start of a text, its words at the start of `words`, as far as these reach.
 pub fn parse_head(classes: &[u8; 256], text: &[u8], words: &mut [u64]) -> Piece
     requires { ⌜ Classes (now classes) × (length (now text) ≤ 16777216) ⌝ }
@@ -135,5 +125,5 @@ pub fn parse_head(classes: &[u8; 256], text: &[u8], words: &mut [u64]) -> Piece
 {
     let p = Parsed::Ok(Cursor { at: 0, w: 0 });
     let q = head_node(classes, text, words, p);
-    piece_of(q)
+    closing::piece_of(q)
 }

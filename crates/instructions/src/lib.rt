@@ -1,8 +1,8 @@
 // The readers of arithmetic, conversions, comparisons, `select`, `phi` and `freeze` (parser.rs, "arithmetic / bitwise" to "comparisons / select", "phi /
 // freeze / call"), each behind its opcode. Each writes the words of its node behind the cursor: a slot for the header, the destination, the
 // operands; then the header.
+use keywords::Ranked;
 use lexer::Parsed;
-use lexer::Ranked;
 use types::Listed;
 ghost use mathlib.Core.Path.{_≡_};
 ghost use mathlib.Core.List.{[], _∷_};
@@ -121,7 +121,7 @@ fn fcmp_rank(classes: &[u8; 256], text: &[u8], p: Parsed) -> Ranked
     ensures { λ r. ⌜ (r .r ≡ rankP fcmpPreds (now (text .entry)) p) × (r .p ≡ rankedP fcmpPreds (now (text .entry)) p) ⌝ }
 {
     let lens: [u8; 16] = [5, 3, 3, 3, 3, 3, 3, 3, 3, 3, 3, 3, 3, 3, 3, 4];
-    lexer::match_rank(
+    keywords::match_rank(
         classes,
         text,
         p,
@@ -193,7 +193,7 @@ fn icmp_rank(classes: &[u8; 256], text: &[u8], p: Parsed) -> Ranked
     ensures { λ r. ⌜ (r .r ≡ rankP icmpPreds (now (text .entry)) p) × (r .p ≡ rankedP icmpPreds (now (text .entry)) p) ⌝ }
 {
     let lens: [u8; 10] = [2, 2, 3, 3, 3, 3, 3, 3, 3, 3];
-    lexer::match_rank(classes, text, p, &lens, b"eqneugtugeultulesgtsgesltsle")
+    keywords::match_rank(classes, text, p, &lens, b"eqneugtugeultulesgtsgesltsle")
 }
 
 // `parse_icmp_pred`

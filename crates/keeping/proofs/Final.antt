@@ -18,11 +18,6 @@ use Rattle.directory.proofs.Moved.{moved-length, entry-put}
 use Rattle.keeping.proofs.Place.{full-fine, left-fine, left-refused}
 
 -- ---- `clear`
--- from 0 on: what a refusal leaves
-pub cleared : (l : List ℕ) → take 0 l ++ replicate (length l - 0) 0 ≡ pad (length l) []
-unfolding pad
-cleared l = refl
-
 -- behind what has been written
 pub cleared-behind : (l xs : List ℕ) (m n : ℕ) → length l ≡ n → length xs ≡ m → take m l ≡ xs → take m l ++ replicate (length l - m) 0 ≡ pad n xs
 unfolding pad

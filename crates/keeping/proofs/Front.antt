@@ -17,7 +17,7 @@ use Rattle.program.specs.Prog.{ends}
 use Rattle.records.specs.Words.{hi, lo}
 use Rattle.records.specs.Pieces.{Old, old, oldSizes, oldWords, leads, addrspace, closes, keptRest, keptFront}
 use Rattle.directory.specs.Olds.{oldsOf, Joined, WordEnd, FrontIs}
-use Rattle.texts.proofs.Texts.{drop-next}
+use Rattle.program.specs.Lists.{drop-next}
 use Rattle.directory.proofs.Links.{sizeAt, firstAt, countAt, olds-next, olds-take, olds-length, sizes-step, words-step}
 
 -- ---- where the first pieces end

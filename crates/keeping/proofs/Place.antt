@@ -14,9 +14,8 @@ use Rattle.records.specs.Limits.{halfLimit}
 use Rattle.records.specs.Pieces.{Run, done, item, mapRun, Source, fresh, sourceWords, isFresh, sumRun, before, Old, old, oldSizes, oldWords, allWords, entries, countRun, pad, fine, refused, refusedAt, count, left, leave, again-left, leaveAgain}
 use Rattle.directory.specs.Olds.{oldsOf, moved, Joined, Chained}
 use Rattle.keeping.specs.Place.{fullThen, readThen, readSize, readWords, readEntries, restLeft, wordsLeft, entriesLeft}
-use Rattle.keeping.proofs.Chain.{drop-entry}
 use Rattle.directory.proofs.Moved.{moved-more}
-use Rattle.directory.proofs.Links.{sizeAt, firstAt, countAt, olds-next, olds-take, olds-length, olds-drop, words-step, words-split}
+use Rattle.directory.proofs.Links.{drop-entry, sizeAt, firstAt, countAt, olds-next, olds-take, olds-length, olds-drop, words-step, words-split}
 
 -- ---- pieces that were read
 pub full-map : (ws : List ℕ) (fs : List (ℕ × List ℕ)) (r : Run Source) → mapRun (sourceWords ws) (readThen fs r) ≡ fullThen fs (mapRun (sourceWords ws) r)

@@ -22,7 +22,7 @@ use Rattle.lexer.specs.Reads.{Stands, Budget, At, Ends, at, out, Leads, 
 use Rattle.lexer.specs.declared.Cursor.{Cursor}
 use Rattle.lexer.specs.declared.Parsed.{Parsed}
 use Rattle.lexer.specs.declared.Parsed.the-variants.{Ok, Refused}
-use Rattle.lexer.proofs.Scan.{drop-next}
+use Rattle.program.specs.Lists.{drop-next}
 
 -- ---- one program after another, in the whole text
 unfoldable pub after : {A B : Type 0} → (A → Prog B) → List ℕ → Res A → Res B
@@ -616,3 +616,22 @@ dots-yes e g s y d h = byte-at-yes _ _ s y (val _ d h)
 pub dots-no : {A : Type 0} {mid : List ℕ} {E : Goal A} {text : List ℕ} {p0 p p′ : Parsed} {w w′ : List ℕ} {c : ℕ} {g : Prog A} (e : ℕ) (f : Prog A) {r : Bool} → r ≡ looksP text p 46 → r ≡ false → Leads g c mid E text p0 p w p′ w′ → Leads (dotsIf e f g) c mid E text p0 p w p′ w′
 unfolding dotsIf
 dots-no e f s y h = byte-at-no _ _ s y h
+
+-- ---- a program that is another
+pub turn : {A : Type 0} {f g : Prog A} {c : ℕ} {mid : List ℕ} {E : Goal A} {text : List ℕ} {p0 p p′ : Parsed} {w w′ : List ℕ} → f ≡ g → Leads g c mid E text p0 p w p′ w′ → Leads f c mid E text p0 p w p′ w′
+turn {A} {f} {g} {c} {mid} {E} {text} {p0} {p} {p′} {w} {w′} e h = subst (λ (z : Prog A). Leads z c mid E text p0 p w p′ w′) (sym e) h
+
+pub g-turn : {A : Type 0} {f g : Prog A} {E : Aim A} {text : List ℕ} {p p′ : Parsed} → f ≡ g → Finds g E text p p′ → Finds f E text p p′
+g-turn {A} {f} {g} {E} {text} {p} {p′} e h = subst (λ (z : Prog A). Finds z E text p p′) (sym e) h
+
+-- ---- words that are the same
+pub same-word : (a b : List ℕ) → sameWord a b ≡ true → a ≡ b
+unfolding sameWord
+same-word [] [] e = refl
+same-word [] (y ∷ b) e = true-false e
+same-word (x ∷ a) [] e = true-false e
+same-word (x ∷ a) (y ∷ b) e = go (eqb x y) refl (same-word a b) e
+  where
+    go : (z : Bool) → eqb x y ≡ z → (sameWord a b ≡ true → a ≡ b) → (z && sameWord a b) ≡ true → x ∷ a ≡ y ∷ b
+    go true t k e = let h : x ≡ y = eqb-true x y t in let m : a ≡ b = k e in cc
+    go false t k e = true-false e

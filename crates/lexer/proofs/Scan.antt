@@ -5,21 +5,16 @@ use mathlib.Core.List.{List, [], _∷_}
 use mathlib.Core.Bool.{Bool, true, false, _&&_}
 use mathlib.Core.Option.{Option, none, some}
 use Prim.Native.Nat.{ℕ, _+_, _-_, _≤_, _<_}
-use native.Mathlib.Numerals.{add-one}
 use native.Mathlib.Nat.{add-zero}
 use native.Mathlib.Omega.{arith}
 use lib.ListN.{length, getD, drop, drop-of-length-le}
-use lib.Seq.{drop-cons}
 use lib.Dec.{ltb, leb, eqb}
 use borrow.Author.Tests.{eq-eqb, ne-eqb, lt-ltb, le-ltb, le-leb, lt-leb, leb-true, leb-false, ltb-true, ltb-false, eqb-true}
+use Rattle.program.specs.Lists.{drop-next}
 use Rattle.program.specs.Class.{classOf, isWord, isSpace}
 use Rattle.program.specs.Prog.{byteAt, leadWord, scanLen}
 use Rattle.grammar.specs.Lexer.{isByte, sameWord, stateOf, spaceStep}
 use Rattle.lexer.specs.Step.{stepCode, taken, StopAt}
-
--- the byte at a place, and the text behind it
-pub drop-next : (s : List ℕ) (i : ℕ) → i < length s → drop i s ≡ getD s i 0 ∷ drop (i + 1) s
-drop-next s i h = rw (add-one, drop-cons s i 0)
 
 pub byte-in : (s : List ℕ) (i b : ℕ) → b < 256 → i < length s → isByte b (byteAt (drop i s)) ≡ eqb (getD s i 0) b
 unfolding isByte byteAt

@@ -1,5 +1,3 @@
 pub mod Table
 pub mod Step
 pub mod Reads
-pub mod Number
-pub mod Place

@@ -2,21 +2,11 @@
 //
 // A reader takes the answer so far, `Parsed`, and hands a refusal on, so that its body is a straight line of calls, as the Rust's with `?`.
 // The table of classes is made once, by `classes`, and lent to every reader as its first parameter.
-pub mod keywords; // keywords.rt: keywords by their rank in a table
 pub mod limits; // limits.rt: the classes of bytes by name
 pub mod lists; // lists.rt: what lists share
-pub mod lines; // lines.rt: the line and the column of a place
-pub mod numbers; // numbers.rt: numbers of at most 64 bits
 
-pub use keywords::match_rank;
-pub use keywords::rank_of;
-pub use keywords::skip_all;
-pub use keywords::skip_one;
-pub use lines::position_of;
 pub use lists::comma_or;
 pub use lists::count_child;
-pub use numbers::parse_int;
-pub use numbers::shift;
 ghost use mathlib.Core.Path.{_≡_};
 ghost use Prim.Native.Nat.{_+_, _-_};
 ghost use lib.ListN.{length, drop};
@@ -315,34 +305,10 @@ pub enum Parsed {
     Refused(u64, usize),
 }
 
-// The rank of a keyword in a table, and where the reader is behind it.
-pub struct Ranked {
-    pub p: Parsed,
-    pub r: usize,
-}
-
 // An answer with a number: a value, or a name's word.
 pub struct Num {
     pub p: Parsed,
     pub v: u64,
-}
-
-// A number, or one that 64 bits do not hold.
-pub enum Val {
-    Exact(u64),
-    Over,
-}
-
-// The place behind digits, and their value.
-pub struct Digits {
-    pub at: usize,
-    pub val: Val,
-}
-
-// A place as line and column, both from 1.
-pub struct Position {
-    pub line: usize,
-    pub column: usize,
 }
 
 // Where an automaton stopped, and in which state.

@@ -7,7 +7,7 @@ use native.Mathlib.Omega.{arith}
 use lib.ListN.{set, length, drop, getD, length-drop}
 use Rattle.records.specs.Words.{hi, lo}
 use Rattle.lexer.specs.Step.{bumped}
-use Rattle.lexer.proofs.Scan.{drop-next}
+use Rattle.program.specs.Lists.{drop-next}
 use Rattle.listing.specs.Lines.{pieceLine, pieceLines, wordsEnd}
 use Rattle.listing.specs.Stored.{stored, placed, Stores}
 

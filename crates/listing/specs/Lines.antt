@@ -8,7 +8,7 @@ use Rattle.program.specs.Choice.{test}
 use Rattle.records.specs.Words.{hi, lo}
 use Rattle.records.specs.Pieces.{Left, left, count, refusedAt}
 use Rattle.grammar.specs.Function.{readingOf}
-use Rattle.lexer.specs.Place.{positionOf}
+use Rattle.lines.specs.Place.{positionOf}
 
 -- a number in decimal, of at most u digits more, in front of what is there
 unfoldable pub digitsIn : ℕ → ℕ → List ℕ → List ℕ

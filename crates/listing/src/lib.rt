@@ -143,7 +143,7 @@ pub fn list(directory: &[u64], n: usize, out: &mut [u8]) -> usize
 pub fn refusal(text: &[u8], q: u64, p: u64, out: &mut [u8]) -> usize
     ensures { λ r. ⌜ Stores (refusalLine (now (text .entry)) q p) 0 (now (out .entry)) r (now (out .exit)) ⌝ }
 {
-    let at = lexer::position_of(text, p as usize);
+    let at = lines::position_of(text, p as usize);
     let k = put_all(out, 0, b"refused ");
     let k1 = put_decimal(out, k, q);
     let k2 = put_all(out, k1, b" place ");

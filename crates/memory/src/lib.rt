@@ -75,7 +75,7 @@ pub fn skip_atomic_ordering(classes: &[u8; 256], text: &[u8], p: Parsed) -> Pars
     let lens: [u8; 6] = [7, 7, 7, 7, 9, 9];
     let q = lexer::eat_ws(classes, text, p);
     let q1 = opt_scope(classes, text, q);
-    lexer::skip_one(
+    keywords::skip_one(
         classes,
         text,
         q1,
@@ -244,7 +244,7 @@ pub fn parse_extractvalue(
     q = operands::parse_operand(classes, text, words, q);
     q = lexer::expect_token(classes, text, q, b',');
     q = lexer::eat_ws(classes, text, q);
-    let n = lexer::parse_int(classes, text, q, 0, records::INDEX_LIMIT);
+    let n = numbers::parse_int(classes, text, q, 0, records::INDEX_LIMIT);
     q = n.p;
     q = writer::patch(words, p, q, 2, n.v);
     operands::end(classes, text, words, p, q, records::K_EXTRACT_VALUE, 0, 1)
@@ -286,7 +286,7 @@ fn alloca_rest(classes: &[u8; 256], text: &[u8], words: &mut [u64], p: Parsed) -
             if lexer::word(classes, text, q, b"align") {
                 q = lexer::pass_word(text, q, b"align");
                 q = lexer::eat_ws(classes, text, q);
-                let k = lexer::parse_int(classes, text, q, 0, records::NUMBER_LIMIT);
+                let k = numbers::parse_int(classes, text, q, 0, records::NUMBER_LIMIT);
                 q = k.p;
                 has = 1;
                 v = k.v;
@@ -431,7 +431,7 @@ pub fn parse_gep_inst(
     ensures { λ r. ⌜ Leads (parseGepInst dest) 2 [] (made same (now (text .entry)) p) (now (text .entry)) p p (now (words .entry)) r (now (words .exit)) ⌝ }
 {
     let q = writer::begin(words, p, dest);
-    let f = values::parse_gep_flags(classes, text, q);
+    let f = leaf_values::parse_gep_flags(classes, text, q);
     let q1 = f.p;
     let q2 = types::parse_type(classes, text, words, q1, records::DEPTH_LIMIT);
     let q3 = lexer::expect_token(classes, text, q2, b',');

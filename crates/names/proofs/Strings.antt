@@ -24,7 +24,8 @@ use Rattle.lexer.specs.declared.Cursor.{Cursor}
 use Rattle.lexer.specs.declared.Parsed.{Parsed}
 use Rattle.lexer.specs.declared.Parsed.the-variants.{Ok, Refused}
 use Rattle.lexer.specs.declared.Stop.{Stop}
-use Rattle.lexer.proofs.Scan.{drop-next, scan-some, scan-stop, byte-inside, byte-in}
+use Rattle.program.specs.Lists.{drop-next}
+use Rattle.lexer.proofs.Scan.{scan-some, scan-stop, byte-inside, byte-in}
 use Rattle.lexer.proofs.Laws.{bump-in, byte-run, run-eat, scan-run, some-byte, given, gone, kept, g-done}
 
 -- ---- unquoted: r is the class of the byte at i

@@ -18,7 +18,8 @@ use Rattle.grammar.specs.Numbers.{digitStep, valueOf, hexStep, digits}
 use Rattle.lexer.specs.Step.{taken}
 use Rattle.lexer.specs.declared.Cursor.{Cursor}
 use Rattle.lexer.specs.declared.Parsed.the-variants.{Ok, Refused}
-use Rattle.lexer.proofs.Scan.{drop-next, scan-some}
+use Rattle.program.specs.Lists.{drop-next}
+use Rattle.lexer.proofs.Scan.{scan-some}
 use Rattle.lexer.proofs.Laws.{given, kept, scan-run, true-false}
 use Rattle.arithmetic.specs.Folds.{folded, allDigits, begins}
 use Rattle.arithmetic.specs.Hex.{hexFolded, hexPushed}

@@ -17,7 +17,8 @@ use Rattle.lexer.specs.Reads.{Leads, Goal}
 use Rattle.lexer.specs.declared.Cursor.{Cursor}
 use Rattle.lexer.specs.declared.Parsed.{Parsed}
 use Rattle.lexer.specs.declared.Parsed.the-variants.{Ok, Refused}
-use Rattle.lexer.proofs.Scan.{drop-next, wordy, wordless}
+use Rattle.program.specs.Lists.{drop-next}
+use Rattle.lexer.proofs.Scan.{wordy, wordless}
 use Rattle.lexer.proofs.Laws.{moved, run-eatN, true-false, byte-no}
 use Rattle.numerals.specs.Tests.{startsP, digitP}
 

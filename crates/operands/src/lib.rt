@@ -46,7 +46,7 @@ fn trail_step(classes: &[u8; 256], text: &[u8], p: Parsed, has: u8, v: u64) -> T
         if lexer::word(classes, text, q2, b"align") {
             let q3 = lexer::pass_word(text, q2, b"align");
             let q4 = lexer::eat_ws(classes, text, q3);
-            let n = lexer::parse_int(classes, text, q4, 0, records::NUMBER_LIMIT);
+            let n = numbers::parse_int(classes, text, q4, 0, records::NUMBER_LIMIT);
             let q5 = n.p;
             return Turn {
                 p: q5,

@@ -17,13 +17,13 @@ use borrow.Author.Tests.{lt-ltb, le-ltb}
 use Rattle.records.specs.Questions.{qWords, qEntries}
 use Rattle.records.specs.Pieces.{HeadRead, head, badHead, BlockRead, block, tail, badBlock, Run, done, stop, item, mapRun, Source, fresh, size, before, Old, oldSizes, oldWords, Verdict, fine, refused, judge, joins, againIn, again, behindFront}
 use Rattle.theorem_edits.specs.Law.{Grammar}
-use Rattle.keeping.specs.Answers.{roomOf, afterRoom}
+use Rattle.rooms.specs.Rooms.{roomOf, afterRoom}
 use Rattle.directory.specs.Olds.{oldsOf, Chained, Passed, JoinsAt, JoinsNot}
 use Rattle.keeping.specs.Place.{fullThen, readThen, readSize, readWords, restLeft, Settled}
-use Rattle.keeping.specs.declared.rooms.Room.the-variants.{Fits, Words, Entry}
+use Rattle.rooms.specs.declared.Room.the-variants.{Fits, Words, Entry}
 use Rattle.directory.proofs.Links.{olds-length, words-split, no-more}
-use Rattle.keeping.proofs.Judge.{judge-item, Fitting, fitting, kept-room}
-use Rattle.keeping.proofs.Find.{passed-first, passed-later, kept-size}
+use Rattle.rooms.proofs.Judge.{judge-item, Fitting, fitting, kept-room}
+use Rattle.older.proofs.Find.{passed-first, passed-later, kept-size}
 use Rattle.keeping.proofs.Place.{full-snoc, read-snoc, size-snoc, words-snoc}
 
 module _ (headAt : List ℕ → HeadRead) (blockAt : List ℕ → BlockRead) (G : Grammar headAt blockAt) (c olen : ℕ) (os : List Old) where

@@ -13,15 +13,15 @@ use lib.Seq.{drop-drop}
 use Rattle.theorem_edits.specs.Law.{commonEnd-le, common-le-newer}
 use Rattle.records.specs.Pieces.{Run, done, stop, item, mapRun, Source, fresh, size, before, Old, oldSizes, oldWords, Verdict, fine, refused, judge, joins, common, commonEnd, again, behindFront, keptFront, keeps, rest, judgeAgain}
 use Rattle.grammar.specs.Function.{headAt, blockAt}
-use Rattle.keeping.specs.Answers.{roomOf, afterRoom}
+use Rattle.rooms.specs.Rooms.{roomOf, afterRoom}
 use Rattle.directory.specs.Olds.{oldsOf, Passed, JoinsAt, JoinsNot, FrontIs}
 use Rattle.keeping.specs.Place.{readThen, readSize, readWords, Settled}
 use Rattle.directory.specs.declared.pieces.Piece.{Piece}
 use Rattle.directory.specs.declared.pieces.Piece.the-variants as pieces
-use Rattle.keeping.specs.declared.rooms.Room.the-variants.{Fits}
+use Rattle.rooms.specs.declared.Room.the-variants.{Fits}
 use Rattle.directory.proofs.Links.{olds-length, words-split, no-more}
-use Rattle.keeping.proofs.Judge.{Fitting, fitting, kept-room}
-use Rattle.keeping.proofs.Find.{passed-first, passed-later, kept-size}
+use Rattle.rooms.proofs.Judge.{Fitting, fitting, kept-room}
+use Rattle.older.proofs.Find.{passed-first, passed-later, kept-size}
 use Rattle.keeping.proofs.Front.{front-count, front-size}
 use Rattle.passes.proofs.Again.{Read, read-more, read-no-words, read-no-entry, read-refused, read-kept, read-all, again-joined, again-block, again-tail, again-bad, behind-joined, behind-head, behind-bad, behind-some, settled-all}
 use Rattle.passes.specs.Parts.{HeadIn, BlockIn, HeadDry, BlockDry}

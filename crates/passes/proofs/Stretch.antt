@@ -12,11 +12,11 @@ use Rattle.records.specs.Questions.{qWords, qEntries}
 use Rattle.records.specs.Pieces.{HeadRead, BlockRead, Verdict, fine, refused}
 use Rattle.grammar.specs.Function.{headAt, blockAt}
 use Rattle.theorem_refusals.specs.Places.{head-place, block-place}
-use Rattle.keeping.specs.Answers.{afterRoom}
+use Rattle.rooms.specs.Rooms.{afterRoom}
 use Rattle.directory.specs.Piece.{Holds, HeadIs, is-head, no-head, BlockIs, is-block, is-tail, no-block}
 use Rattle.directory.specs.declared.pieces.Piece.{Piece}
-use Rattle.keeping.specs.declared.rooms.Room.{Room}
-use Rattle.keeping.specs.declared.rooms.Room.the-variants.{Fits, Words, Entry}
+use Rattle.rooms.specs.declared.Room.{Room}
+use Rattle.rooms.specs.declared.Room.the-variants.{Fits, Words, Entry}
 use Rattle.passes.specs.Parts.{Within, HeadIn, BlockIn, HeadDry, BlockDry}
 
 -- a part that goes to the end

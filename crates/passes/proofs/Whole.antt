@@ -18,10 +18,10 @@ use Rattle.theorem_edits.specs.Programs.{grammar}
 use Rattle.grammar.specs.Body.{parseHead, parseBlock}
 use Rattle.grammar.specs.Function.{headAt, blockAt, readingOf}
 use Rattle.theorem_edits.specs.Again.{block-moves}
-use Rattle.keeping.specs.Answers.{roomOf, afterRoom}
+use Rattle.rooms.specs.Rooms.{roomOf, afterRoom}
 use Rattle.keeping.specs.Place.{fullThen, readSize, readWords, readEntries}
-use Rattle.keeping.specs.declared.rooms.Room.the-variants.{Fits}
-use Rattle.keeping.proofs.Judge.{Fitting, fitting}
+use Rattle.rooms.specs.declared.Room.the-variants.{Fits}
+use Rattle.rooms.proofs.Judge.{Fitting, fitting}
 use Rattle.keeping.proofs.Place.{words-snoc, entries-snoc, entries-length}
 use Rattle.keeping.proofs.Final.{Put, put-first, put-next, put-taken, full-left, full-text, full-is}
 use Rattle.passes.proofs.Again.{ReadFull, full-first, full-more, full-no-words, full-no-entry, full-refuses, full-all}

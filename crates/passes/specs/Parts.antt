@@ -4,14 +4,10 @@ use mathlib.Core.Path.{_≡_}
 use mathlib.Core.List.{List, _++_}
 use Prim.Native.Nat.{ℕ, _+_, _≤_}
 use lib.ListN.{length, take, drop}
-use Rattle.records.specs.Pieces.{Verdict, refused, head, badHead, block, tail, badBlock}
+use Rattle.records.specs.Pieces.{head, badHead, block, tail, badBlock}
 use Rattle.grammar.specs.Function.{headAt, blockAt}
-use Rattle.keeping.specs.Answers.{roomOf, afterRoom}
 use Rattle.directory.specs.declared.pieces.Piece.{Piece}
 use Rattle.directory.specs.declared.pieces.Piece.the-variants.{Read, Tail, Refused}
-use Rattle.keeping.specs.declared.rooms.Room.the-variants.{Fits}
-use Rattle.texts.specs.declared.Verdict as code
-use Rattle.texts.specs.declared.Verdict.the-variants as verdicts
 
 -- Only the words from `word` up to `to` may have changed.
 pub record Within (word to : ℕ) (words words′ : List ℕ) : Type 0 where
@@ -59,8 +55,3 @@ abbrev pub BlockDry : List ℕ → Piece → Type 0
 BlockDry s (Read e n) = Counts (λ ws. blockAt s ≡ block e ws) n
 BlockDry s (Tail e) = blockAt s ≡ tail e
 BlockDry s (Refused q p) = Stops (blockAt s ≡ badBlock q p) p s
-
--- Questions 20 and 21 of piece i, which ends at `place`.
-abbrev pub Asked : (words dir i word n place : ℕ) → code.Verdict → Type 0
-Asked words dir i word n place verdicts.Fine = roomOf words dir i word n ≡ Fits
-Asked words dir i word n place (verdicts.Refused q p) = (v : Verdict) → afterRoom (roomOf words dir i word n) place v ≡ refused q p

@@ -1,15 +1,15 @@
 // The first pass: which pieces are read, and which old ones are kept behind them. All questions are asked, and nothing is written.
 use crate::numbered::piece_dry;
-use crate::parts::ask;
+use directory::pieces::Older;
 use directory::pieces::Piece;
 use directory::pieces::Size;
 use directory::pieces::Spot;
-use keeping::older::Edit;
-use keeping::older::Found;
-use keeping::older::Older;
-use keeping::older::join_old;
-use keeping::rooms::Lent;
-use keeping::rooms::room_kept;
+use older::Edit;
+use older::Found;
+use older::join_old;
+use rooms::Lent;
+use rooms::ask;
+use rooms::room_kept;
 use texts::Verdict;
 ghost use mathlib.Core.Path.{_≡_};
 ghost use Prim.Native.Nat.{_+_};

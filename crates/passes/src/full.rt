@@ -1,12 +1,12 @@
 // The full reading, piece by piece: each is written where it stays.
-use crate::parts::ask;
 use crate::parts::block_in;
 use crate::parts::head_in;
 use directory::arrays::put_entry;
 use directory::pieces::Piece;
 use directory::pieces::Size;
 use directory::pieces::Spot;
-use keeping::rooms::Lent;
+use rooms::Lent;
+use rooms::ask;
 use texts::Verdict;
 ghost use Prim.Native.Nat.{_≤_};
 ghost use lib.ListN.{length};

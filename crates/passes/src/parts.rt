@@ -1,17 +1,13 @@
-// One piece of a text: where it is read from, where its words go, and whether there is room.
+// One piece of a text: where it is read from, and where its words go.
 use blocks::parse_block;
 use directory::pieces::Piece;
-use directory::pieces::Size;
 use directory::pieces::Spot;
 use head::parse_head;
-use keeping::rooms::Lent;
-use keeping::rooms::Room;
-use texts::Verdict;
-ghost use Prim.Native.Nat.{_+_, _≤_};
+ghost use Prim.Native.Nat.{_≤_};
 ghost use lib.ListN.{length, drop};
 ghost use Rattle.records.specs.Limits.{textLimit};
 ghost use Rattle.lexer.specs.Table.{Classes};
-ghost use Rattle.passes.specs.Parts.{HeadIn, BlockIn, HeadDry, BlockDry, Asked};
+ghost use Rattle.passes.specs.Parts.{HeadIn, BlockIn, HeadDry, BlockDry};
 
 // The head. Its words stand from `word` on, as far as `to`.
 pub fn head_in(classes: &[u8; 256], text: &[u8], words: &mut [u64], word: usize, to: usize) -> Piece
@@ -53,17 +49,4 @@ pub fn block_dry(classes: &[u8; 256], text: &[u8], pos: usize) -> Piece
 {
     let mut none = [0u64; 0];
     parse_block(classes, &text[pos..], &mut none)
-}
-
-// Questions 20 and 21 of the piece there, which takes so much; a refusal's place is its end.
-pub fn ask(lent: Lent, spot: Spot, size: Size) -> Verdict
-    requires { ⌜ spot .pos + size .bytes ≤ textLimit ⌝ }
-    ensures { λ r. ⌜ Asked (lent .words) (lent .directory) (spot .number) (spot .word) (size .words) (spot .pos + size .bytes) r ⌝ }
-{
-    let end = (spot.pos + size.bytes) as u64;
-    match keeping::rooms::room_for(lent, spot, size.words) {
-        Room::Fits => Verdict::Fine,
-        Room::Words => Verdict::Refused(records::Q_WORDS, end),
-        Room::Entry => Verdict::Refused(records::Q_ENTRIES, end),
-    }
 }

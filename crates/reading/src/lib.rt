@@ -1,6 +1,7 @@
 // The full reading of one function, and its re-reading after an edit. Memory is lent: the words of the nodes, and the directory of the pieces.
 use directory::arrays::clear;
-use keeping::older::Older;
+use directory::arrays::wipe;
+use directory::pieces::Older;
 use passes::first::Known;
 use passes::first::Plan;
 use passes::full::Written;
@@ -30,14 +31,6 @@ pub struct Renewed {
 pub enum Reread {
     Accepted(Renewed),
     Refused(u64, u64),
-}
-
-// A refusal leaves zeros.
-fn wipe(words: &mut [u64], directory: &mut [u64])
-    ensures { λ r. ⌜ (now (words .exit) ≡ pad (length (now (words .entry))) []) × (now (directory .exit) ≡ pad (length (now (directory .entry))) []) ⌝ }
-{
-    clear(words, 0);
-    clear(directory, 0);
 }
 
 // A refused reading.
@@ -92,7 +85,7 @@ fn read_again(
     let classes = lexer::classes();
     let a = texts::common(older, newer);
     let c = texts::common_end(older, newer, a);
-    let front = keeping::kept::kept_front(newer, a, directory, entries);
+    let front = keeping::kept_front(newer, a, directory, entries);
     let known = Known {
         end: c,
         words: words.len(),
@@ -101,7 +94,7 @@ fn read_again(
     match passes::first::read_dry(&classes, older, newer, directory, known, front) {
         Plan::Refused(q, p) => refuse_again(words, directory, q, p),
         Plan::Keep(behind, from) => {
-            let end = keeping::kept::keep_behind(words, directory, entries, from, behind);
+            let end = keeping::keep_behind(words, directory, entries, from, behind);
             passes::second::write(&classes, newer, words, directory, front, behind);
             let count = behind.number + (entries - from);
             clear(words, end);
@@ -133,7 +126,7 @@ pub fn reparse_define(
                 entries,
                 words: words.len(),
             };
-            if keeping::older::chained(directory, old, older.len()) {
+            if older::chained(directory, old, older.len()) {
                 return read_again(older, newer, words, directory, entries);
             }
             refuse_again(words, directory, records::Q_OLDER, 0)

@@ -12,7 +12,7 @@ use Rattle.program.specs.Class.{classOf}
 use Rattle.grammar.specs.Lexer.{sameWord, plain, quoted, unescape, spelled}
 use Rattle.names.specs.Names.{isQuoted, inner, rawWord, spelledOf, EscapeAt, LetterAt}
 use Rattle.names.specs.declared.Letter.{Letter}
-use Rattle.lexer.proofs.Scan.{drop-next}
+use Rattle.program.specs.Lists.{drop-next}
 use Rattle.lexer.proofs.Laws.{true-false}
 
 -- ---- quotes

@@ -1,9 +1,9 @@
 // Names with quotes and escapes undone: two names are the same when their bytes are, and an opcode may be written in quotes.
+use keywords::least;
+use keywords::rank_in;
+use keywords::same;
+use keywords::wide;
 use lexer::class;
-use lexer::keywords::least;
-use lexer::keywords::rank_in;
-use lexer::keywords::same;
-use lexer::keywords::wide;
 use names::Letter;
 ghost use mathlib.Core.Path.{_≡_};
 ghost use mathlib.Core.Bool.{true, false};
@@ -168,7 +168,7 @@ pub fn same_name(classes: &[u8; 256], a: &[u8], b: &[u8]) -> bool
         let y = between(b);
         return same_spelling(classes, a, false, y, true);
     }
-    lexer::keywords::same(a, b)
+    keywords::same(a, b)
 }
 
 // Does a word spell kw?
@@ -180,7 +180,7 @@ fn spells_raw(classes: &[u8; 256], raw: &[u8], kw: &[u8]) -> bool
         let x = between(raw);
         return same_spelling(classes, x, true, kw, false);
     }
-    lexer::keywords::same(raw, kw)
+    keywords::same(raw, kw)
 }
 
 // Does the word that stands from a place to another spell kw?
@@ -188,7 +188,7 @@ pub fn spells(classes: &[u8; 256], text: &[u8], from: usize, to: usize, kw: &[u8
     requires { ⌜ Classes (now classes) ⌝ }
     ensures { λ r. ⌜ r ≡ sameWord (spelled (rawWord (part (now (text .entry)) from to))) (now (kw .entry)) ⌝ }
 {
-    let end = lexer::keywords::least(to, text.len());
+    let end = keywords::least(to, text.len());
     if from <= end {
         return spells_raw(classes, &text[from..end], kw);
     }
@@ -203,8 +203,8 @@ fn rank_quoted(classes: &[u8; 256], w: &[u8], lens: &[u8], bytes: &[u8]) -> usiz
     let mut k = 0;
     let mut a = 0;
     while k < lens.len() {
-        let n = lexer::keywords::wide(lens[k]);
-        let m = lexer::keywords::least(n, bytes.len() - a);
+        let n = keywords::wide(lens[k]);
+        let m = keywords::least(n, bytes.len() - a);
         let e = a + m;
         if same_spelling(classes, w, true, &bytes[a..e], false) {
             return k;
@@ -224,7 +224,7 @@ fn rank_raw(classes: &[u8; 256], raw: &[u8], lens: &[u8], bytes: &[u8]) -> usize
         let x = between(raw);
         return rank_quoted(classes, x, lens, bytes);
     }
-    lexer::keywords::rank_in(raw, lens, bytes)
+    keywords::rank_in(raw, lens, bytes)
 }
 
 // The rank in a table of the word that stands from a place to another, by its spelling.
@@ -239,7 +239,7 @@ pub fn spelled_rank(
     requires { ⌜ Classes (now classes) ⌝ }
     ensures { λ r. ⌜ r ≡ rank (spelled (rawWord (part (now (text .entry)) from to))) (cut (now (lens .entry)) (now (bytes .entry))) ⌝ }
 {
-    let end = lexer::keywords::least(to, text.len());
+    let end = keywords::least(to, text.len());
     if from <= end {
         return rank_raw(classes, &text[from..end], lens, bytes);
     }

@@ -1,7 +1,7 @@
 -- Opcodes: a word's rank in the table of all of them says which way the definitions go.
 -- The words of the table differ, so the first test that holds is the one of the word's rank.
 -- Assumes nothing.
-use mathlib.Core.Path.{_≡_, refl, sym, ap, _∙_, subst}
+use mathlib.Core.Path.{_≡_, refl, sym, ap, _∙_}
 use mathlib.Core.List.{List, [], _∷_, _++_, append-assoc}
 use mathlib.Core.Bool.{Bool, true, false}
 use Prim.Native.Nat.{ℕ, zero, suc, _+_, _-_, _≤_, _<_}
@@ -16,8 +16,6 @@ use Rattle.grammar.specs.Lexer.{refuse, sameWord, rank}
 use Rattle.grammar.specs.Values.{binOps}
 use Rattle.grammar.specs.Instructions.{among, isWordThen, fbinOps, instConvOps, tailWords, parseBin, parseFbin, parseFneg, parseConv, parseIcmp, parseFcmp, parseSelect, parseLoad, parseGepInst, parsePhi, parseAlloca, parseFreeze, parseCall, parseCmpxchg, parseExtractvalue, parseTailCall, parseStore, parseFence, parseRet, parseBr, parseSwitch, parseUnreachable, valueInst, plainInst}
 use Rattle.grammar.specs.Body.{Statement, asTerminator, opcode}
-use Rattle.lexer.specs.Reads.{Goal, Leads, Aim, Finds}
-use Rattle.lexer.specs.declared.Parsed.{Parsed}
 use Rattle.statements.specs.Opcodes.{valueOpcodes, valueAt, statementWords, terminatorAt, plainAt, asInstruction, statementAt}
 
 -- ---- ranks
@@ -257,10 +255,3 @@ module _ (r : ℕ) where
   pub plain-none : 10 ≤ r → plainAt r ≡ refuse 9
   unfolding armAt tailArm tailWords
   plain-none l = by-plain (omega arith) ∙ many-at [] [] (refuse 9) 7 r (λ _. refuse 9) tailWords (λ n. parseTailCall 0) false (le-ltb r 10 l)
-
--- ---- a program that is another
-pub turn : {A : Type 0} {f g : Prog A} {c : ℕ} {mid : List ℕ} {E : Goal A} {text : List ℕ} {p0 p p′ : Parsed} {w w′ : List ℕ} → f ≡ g → Leads g c mid E text p0 p w p′ w′ → Leads f c mid E text p0 p w p′ w′
-turn {A} {f} {g} {c} {mid} {E} {text} {p0} {p} {p′} {w} {w′} e h = subst (λ (z : Prog A). Leads z c mid E text p0 p w p′ w′) (sym e) h
-
-pub g-turn : {A : Type 0} {f g : Prog A} {E : Aim A} {text : List ℕ} {p p′ : Parsed} → f ≡ g → Finds g E text p p′ → Finds f E text p p′
-g-turn {A} {f} {g} {E} {text} {p} {p′} e h = subst (λ (z : Prog A). Finds z E text p p′) (sym e) h

@@ -16,7 +16,7 @@ use Rattle.names.specs.Names.{part, isQuoted, inner, rawWord}
 use Rattle.lexer.specs.Reads.{Budget, At, Ends, at, out, Leads, Goal, made, Gave, got, not as is-not, Gives}
 use Rattle.lexer.specs.declared.Cursor.{Cursor}
 use Rattle.lexer.specs.declared.Parsed.{Parsed}
-use Rattle.lexer.proofs.Laws.{after, bind-at, true-false, at-less, at-place, at-part, at-whole, spare}
+use Rattle.lexer.proofs.Laws.{same-word, after, bind-at, true-false, at-less, at-place, at-part, at-whole, spare}
 use Rattle.names.proofs.Passed.{word-long}
 use Rattle.operands.specs.Rich.{richly}
 use Rattle.operands.proofs.RichLaws.{enrich}
@@ -35,17 +35,6 @@ module _ {A : Type 0} {f : Prog A} {d : ℕ} {mid : List ℕ} {E : Goal A} {text
   paid-rich h l = spare d l h
 
 -- the rank of a word is that of the keyword that it spells
-same-word : (a b : List ℕ) → sameWord a b ≡ true → a ≡ b
-unfolding sameWord
-same-word [] [] h = refl
-same-word [] (y ∷ b) h = true-false h
-same-word (x ∷ a) [] h = true-false h
-same-word (x ∷ a) (y ∷ b) h = go (eqb x y) refl (same-word a b) h
-  where
-    go : (z : Bool) → eqb x y ≡ z → (sameWord a b ≡ true → a ≡ b) → (z && sameWord a b) ≡ true → x ∷ a ≡ y ∷ b
-    go true e k t = let i : x ≡ y = eqb-true _ _ e in let j : a ≡ b = k t in cc
-    go false e k t = true-false t
-
 pub rank-same : {r : Bool} {k : ℕ} (w kw : List ℕ) (t : List (List ℕ)) → k ≡ rank kw t → r ≡ sameWord w kw → r ≡ true → k ≡ rank w t
 rank-same w kw t e i y = e ∙ ap (λ (v : List ℕ). rank v t) (sym (same-word w kw (sym i ∙ y)))
 

@@ -15,7 +15,8 @@ use borrow.Author.Tests.{eq-eqb, ne-eqb, eqb-true, ltb-true, ltb-false}
 use Rattle.theorem_edits.specs.Law.{common-newer}
 use Rattle.records.specs.Pieces.{common, endBehind, commonEnd}
 use Rattle.texts.specs.Texts.{Same, Shares, Ends}
-use Rattle.texts.proofs.Texts.{drop-next, or-left, or-right}
+use Rattle.program.specs.Lists.{drop-next}
+use Rattle.texts.proofs.Texts.{or-left, or-right}
 
 -- ---- the bytes of a block
 xor-none : (a b : ℕ) → bitXor a b ≡ 0 → a ≡ b

@@ -10,15 +10,11 @@ use native.Mathlib.Omega.{arith}
 use lib.Bits.{bitOr, or-add-and, and-le-l, and-le-r}
 use lib.Dec.{leb}
 use lib.ListN.{length, getD, drop, drop-of-length-le}
-use lib.Seq.{drop-cons}
 use borrow.Author.Tests.{le-leb, lt-leb}
+use Rattle.program.specs.Lists.{drop-next}
 use Rattle.records.specs.Questions.{qLength, qAscii}
 use Rattle.records.specs.Pieces.{Verdict, fine, refused, firstHigh, textAsked}
 use Rattle.records.specs.Limits.{textLimit, byteLimit}
-
--- the byte at a place, and the text behind it
-pub drop-next : (s : List ℕ) (i : ℕ) → i < length s → drop i s ≡ getD s i 0 ∷ drop (i + 1) s
-drop-next s i h = rw (add-one, drop-cons s i 0)
 
 pub or-left : (a b : ℕ) → a ≤ bitOr a b
 or-left a b = omega (arith, or-add-and a b, and-le-r a b)

@@ -109,7 +109,14 @@ fn end_blocks(older: &[u8], newer: &[u8], a: usize) -> usize
         if newer.len() - a - c < BLOCK {
             return c;
         }
-        if differ(older, newer, older.len() - c - BLOCK, newer.len() - c - BLOCK) != 0 {
+        if differ(
+            older,
+            newer,
+            older.len() - c - BLOCK,
+            newer.len() - c - BLOCK,
+        )
+            != 0
+        {
             return c;
         }
         c += BLOCK;

@@ -29,37 +29,9 @@ use Rattle.writer.proofs.Words.{front}
 use Rattle.lexer.proofs.Laws.{more, no-more, true-false, g-done, g-word-no, word-no, after, bind-at, at-less, at-place, at-part, at-whole, run-eat, done, stay, then, val, byte-yes, byte-no, fail-is, dots-yes, dots-no, place-then, pass-in}
 use Rattle.writer.proofs.Laws.{replace-then}
 use Rattle.lexer.proofs.Children.{assoc, nest, g-room, in-room, comma-yes, comma-no}
-use Rattle.types.specs.Reading.{spaced, TypeEnds, read, back, none, typed, listOf, Types, wordTypes}
-
--- ---- where no `a` stands, no `addrspace` does
-no-a : (s : List ℕ) → isByte 97 (byteAt s) ≡ false → sameWord (leadWord s) (bytes "addrspace") ≡ false
-unfolding isByte byteAt leadWord sameWord
-no-a [] e = refl
-no-a (x ∷ s) e = go (isWord x) refl
-  where
-    go : (b : Bool) → isWord x ≡ b → sameWord (leadWord (x ∷ s)) (bytes "addrspace") ≡ false
-    go true h = rw (leadWord, h, e)
-    go false h = rw (leadWord, h)
-
-not-word : (text : List ℕ) (p : Parsed) → looksP text p 97 ≡ false → wordP text p (bytes "addrspace") ≡ false
-not-word text (Ok c) e = no-a (drop (c .at) text) e
-not-word text (Refused n q) e = refl
-
-pub not-addrspace : {text : List ℕ} {p : Parsed} {r : Bool} → r ≡ looksP text p 97 → r ≡ false → Gives optAddrspace tt text p p
-unfolding optAddrspace
-not-addrspace {text} {p} e y = g-word-no (bytes "addrspace") skipParens refl (not-word text p (sym e ∙ y)) g-done
-
--- the same answer, made anew
-pub anew-is : {A : Type 0} {f : Prog A} {a : A} {text : List ℕ} {p q r : Parsed} → r ≡ q → Gives f a text p q → Gives f a text p r
-anew-is {A} {f} {a} {text} {p} e h = subst (λ (z : Parsed). Gives f a text p z) (sym e) h
-
--- the words that are given stand there
-pub done-as : {c : ℕ} {mid ws text : List ℕ} {p0 p : Parsed} {w : List ℕ} → ws ≡ mid → Leads (ret ws) c mid (made same text p0) text p0 p w p w
-done-as {c} {mid} {ws} {text} {p0} {p} {w} e = subst (λ (z : List ℕ). Leads (ret z) c mid (made same text p0) text p0 p w p w) (sym e) done
-
-pub headed : (h kind x : ℕ) → h ≡ header kind 0 0 2 → node kind 0 0 (x ∷ []) ≡ h ∷ x ∷ []
-unfolding node
-headed h kind x e = ap (λ (y : ℕ). y ∷ x ∷ []) (sym e)
+use Rattle.leaf_types.specs.Leaf.{wordTypes}
+use Rattle.leaf_types.proofs.LeafLaws.{word-other}
+use Rattle.types.specs.Reading.{spaced, TypeEnds, read, back, none, typed, listOf, Types}
 
 -- ---- a type that must be whole, then the rest
 -- at a parenthesis what comes next refuses with q
@@ -385,43 +357,6 @@ module _ {text : List ℕ} {p q r r2 : Parsed} {w w1 w2 : List ℕ} where
   type-some d n g h k = let e : suc (d - 1) ≡ d = omega arith in subst (λ (z : ℕ). Types z text p w r2 w2) e (depth-step (d - 1) g h k)
 
 -- ---- which words cannot stand
-same-eq : (a b : List ℕ) → sameWord a b ≡ true → a ≡ b
-unfolding sameWord
-same-eq [] [] e = refl
-same-eq [] (y ∷ b) e = true-false e
-same-eq (x ∷ a) [] e = true-false e
-same-eq (x ∷ a) (y ∷ b) e = go (eqb x y) refl (same-eq a b) e
-  where
-    go : (z : Bool) → eqb x y ≡ z → (sameWord a b ≡ true → a ≡ b) → (z && sameWord a b) ≡ true → x ∷ a ≡ y ∷ b
-    go true t k e = let h : x ≡ y = eqb-true x y t in let m : a ≡ b = k e in cc
-    go false t k e = true-false e
-
--- two words do not stand at one place
-pub word-alone : (text kw other : List ℕ) (p : Parsed) {r : Bool} → r ≡ wordP text p kw → r ≡ true → sameWord kw other ≡ false → wordP text p other ≡ false
-word-alone text kw other (Ok c) {r} l y n = let h : leadWord (drop (c .at) text) ≡ kw = same-eq (leadWord (drop (c .at) text)) kw (sym l ∙ y) in rw h n
-word-alone text kw other (Refused e q) l y n = refl
-
--- a word begins with its first byte
-first-other : (b k : ℕ) (ks s : List ℕ) → isByte b (byteAt s) ≡ true → eqb b k ≡ false → sameWord (leadWord s) (k ∷ ks) ≡ false
-unfolding sameWord leadWord byteAt isByte
-first-other b k ks [] h n = refl
-first-other b k ks (x ∷ s) h n = go (isWord x) refl
-  where
-    same : x ≡ b
-    same = eqb-true x b (and-second (ltb b 256) h)
-      where
-        and-second : (z : Bool) → (z && eqb x b) ≡ true → eqb x b ≡ true
-        and-second true e = e
-        and-second false e = true-false e
-
-    go : (z : Bool) → isWord x ≡ z → sameWord (leadWord (x ∷ s)) (k ∷ ks) ≡ false
-    go true e = rw (leadWord, e) (rw (same, n))
-    go false e = rw (leadWord, e)
-
-pub word-other : (text : List ℕ) (b k : ℕ) (ks : List ℕ) (p : Parsed) {r : Bool} → r ≡ looksP text p b → r ≡ true → eqb b k ≡ false → wordP text p (k ∷ ks) ≡ false
-word-other text b k ks (Ok c) l y n = first-other b k ks (drop (c .at) text) (sym l ∙ y) n
-word-other text b k ks (Refused e q) l y n = refl
-
 module _ {text : List ℕ} {E : Goal (List ℕ)} {c : ℕ} {mid : List ℕ} {p0 p p′ : Parsed} {w w′ : List ℕ} (g : Prog (List ℕ)) where
   pub words-skipped : (b : ℕ) {r : Bool} → r ≡ looksP text p b → r ≡ true → (eqb b 118 ≡ false) × (eqb b 102 ≡ false) × (eqb b 100 ≡ false) × (eqb b 112 ≡ false) × (eqb b 108 ≡ false) × (eqb b 109 ≡ false) → Leads g c mid E text p0 p w p′ w′ → Leads (wordTypes g) c mid E text p0 p w p′ w′
   unfolding wordTypes

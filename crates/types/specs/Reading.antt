@@ -5,11 +5,8 @@ use mathlib.Core.List.{List, []}
 use Prim.Native.Nat.{ℕ, zero, suc, _+_}
 use lib.ListN.{drop}
 use Rattle.program.specs.Prog.{Prog, ret, Res, ok, no-at, run, byteAt, _>>=_}
-use Rattle.program.specs.Bytes.{bytes}
-use Rattle.records.specs.Words.{node}
-use Rattle.records.specs.Kinds.{kind, Void, Float, Double, Label, Metadata}
-use Rattle.grammar.specs.Lexer.{refuse, eatWs, wordIf}
-use Rattle.grammar.specs.Types.{Listed, TypeOut, plain, opened, ptrType, noType, parseTypeList, parseType}
+use Rattle.grammar.specs.Lexer.{refuse, eatWs}
+use Rattle.grammar.specs.Types.{Listed, TypeOut, plain, opened, noType, parseTypeList, parseType}
 use Rattle.lexer.specs.Reads.{Budget, At, Goal, Leads}
 use Rattle.lexer.specs.declared.Cursor.{Cursor}
 use Rattle.lexer.specs.declared.Parsed.{Parsed}
@@ -40,14 +37,3 @@ listOf (suc d) = parseTypeList (noType d) (parseType d)
 -- a reader of types of d levels
 abbrev pub Types : ℕ → List ℕ → Parsed → List ℕ → Parsed → List ℕ → Type 0
 Types d text p words p′ words′ = Leads (parseType d) 0 [] (typed (listOf d) text p) text p p words p′ words′
-
--- the types that are a word, or g
-unfoldable pub wordTypes : Prog (List ℕ) → Prog (List ℕ)
-wordTypes g =
-    wordIf (bytes "void") (ret (node (kind Void) 0 0 []))
-    (wordIf (bytes "float") (ret (node (kind Float) 0 0 []))
-    (wordIf (bytes "double") (ret (node (kind Double) 0 0 []))
-    (wordIf (bytes "ptr") ptrType
-    (wordIf (bytes "label") (ret (node (kind Label) 0 0 []))
-    (wordIf (bytes "metadata") (ret (node (kind Metadata) 0 0 []))
-    g)))))

@@ -23,7 +23,7 @@ use Rattle.lexer.proofs.Laws.{more, no-more, no-ok, true-false, some-word, run-
 use Rattle.lexer.proofs.Children.{assoc, child-is, counted-hands, if-there, comma-yes, comma-no}
 use Rattle.types.specs.Reading.{Types}
 use Rattle.types.proofs.TypeLaws.{Stuck, type-then, space-run, byte-run-no, word-run-no, rank-run-no, fail-run, type-child, comma-again, comma-stop, comma-turn}
-use Rattle.values.specs.Leaf.{Tried, keyValues, wordValues}
+use Rattle.leaf_values.specs.Leaf.{keyValues, wordValues}
 
 -- ---- at a parenthesis no value begins
 no-lead : (s : List ℕ) → byteAt s ≡ 40 → leadWord s ≡ []
@@ -137,35 +137,6 @@ module _ (d : ℕ) {text : List ℕ} {p0 q q1 : Parsed} {v : List ℕ} (u n : �
     indices-more m {q2} {q3} {v3} y g r = more (λ z. indicesOf d z n ws) u pos (comma-yes 41 cm _ _ y (val _ g (then _ (r .0) (λ t. if-there (λ i j z. z) (λ cur o.
         subst (λ (j : ℕ). Leads (indicesOf d (u - 1) j (ws ++ t)) 0 (ws ++ t) (reach (indicesOf d (u - 1) m) text p0) text p0 q3 v3 q3 v3) (r .1 cur o) (stay (indicesOf d (u - 1) m)))))))
 
--- ---- a word that stays, and the first byte of one
-read-word : (text : List ℕ) (p : Parsed) (kw : List ℕ) {r z : Bool} {cur : Cursor} → r ≡ wordP text p kw → r ≡ z → p ≡ Ok cur → sameWord (leadWord (drop (cur .at) text)) kw ≡ z
-read-word text p kw l y e = ap (λ (q : Parsed). wordP text q kw) (sym e) ∙ sym l ∙ y
-
-at-run : {A : Type 0} (kw : List ℕ) (f g : Prog A) (i : ℕ) (s : List ℕ) (z : Bool) → sameWord (leadWord s) kw ≡ z → run (wordAtIf kw f g) i s ≡ run (elim z [ true ↦ f | false ↦ g ]) i s
-unfolding run wordAtIf
-at-run kw f g i s z e = ap (λ (y : Bool). run (elim y [ true ↦ f | false ↦ g ]) i s) e
-
-module _ {A : Type 0} {mid : List ℕ} {E : Goal A} {text : List ℕ} {p0 p p′ : Parsed} {w w′ : List ℕ} {c : ℕ} where
-  pub word-at-yes : {f : Prog A} (kw : List ℕ) (g : Prog A) {r : Bool} → r ≡ wordP text p kw → r ≡ true → Leads f c mid E text p0 p w p′ w′ → Leads (wordAtIf kw f g) c mid E text p0 p w p′ w′
-  word-at-yes {f} kw g l y s = record {
-    runs = λ d low k cur e a. subst (λ (z : Res A). E .ends d k low z p′ w′) (sym (at-run kw f g (cur .at) (drop (cur .at) text) true (read-word text p kw l y e))) (s .runs d low k cur e a);
-    hands = s .hands;
-  }
-
-  pub word-at-no : {g : Prog A} (kw : List ℕ) (f : Prog A) {r : Bool} → r ≡ wordP text p kw → r ≡ false → Leads g c mid E text p0 p w p′ w′ → Leads (wordAtIf kw f g) c mid E text p0 p w p′ w′
-  word-at-no {g} kw f l y s = record {
-    runs = λ d low k cur e a. subst (λ (z : Res A). E .ends d k low z p′ w′) (sym (at-run kw f g (cur .at) (drop (cur .at) text) false (read-word text p kw l y e))) (s .runs d low k cur e a);
-    hands = s .hands;
-  }
-
-  pub eat-then : {f : Prog A} (x : ℕ) (xs : List ℕ) {r : Bool} {q : Parsed} → r ≡ wordP text p (x ∷ xs) → r ≡ true → q ≡ passed text 1 p → Leads f (c + 3) mid E text p0 q w p′ w′ → Leads (eat f) c mid E text p0 p w p′ w′
-  eat-then {f} x xs {r} {q} l y h s = record {
-    runs = λ d low k cur e a.
-        let o : 1 ≤ length (drop (cur .at) text) = omega (arith, some-word (x ∷ xs) (drop (cur .at) text) (read-word text p (x ∷ xs) l y e)) in
-        subst (λ (z : Res A). E .ends d k low z p′ w′) (sym (run-eat f text (cur .at) o)) (moved c 1 (c + 3) cur (h ∙ ap (passed text 1) e) o (omega arith) d low k a s);
-    hands = λ e j t. true-false (ap (λ (z : Parsed). wordP text z (x ∷ xs)) (sym t) ∙ sym l ∙ y);
-  }
-
 -- ---- the depth
 -- behind the forms that hold no other
 unfoldable pub holding : ℕ → Prog TypeOut → Prog (List ℕ) → Prog (List ℕ)
@@ -186,7 +157,3 @@ value-some {text} {p} {q} {r} {w} {w1} d n g k = let e : suc (d - 1) ≡ d = ome
 -- the place of the `<`, in the code
 pub packed-as : {i j : ℕ} (t : Prog TypeOut) (x : Prog (List ℕ)) {text : List ℕ} {p q : Parsed} {w w1 : List ℕ} → i ≡ j → Leads (packedConst i t x) 1 [] (made same text p) text p p w q w1 → Leads (packedConst j t x) 1 [] (made same text p) text p p w q w1
 packed-as t x {text} {p} {q} {w} {w1} e h = subst (λ (z : ℕ). Leads (packedConst z t x) 1 [] (made same text p) text p p w q w1) e h
-
--- the same answer, made anew
-pub tried-anew : {F : Prog (List ℕ) → Prog (List ℕ)} {text : List ℕ} {p q r : Parsed} {words words′ : List ℕ} {hit : Bool} → r ≡ q → Tried F text p words q hit words′ → Tried F text p words r hit words′
-tried-anew {F} {text} {p} {q} {r} {words} {words′} {hit} e t = subst (λ (z : Parsed). Tried F text p words z hit words′) (sym e) t

@@ -4,7 +4,7 @@ use reading::Reread;
 ghost use mathlib.Core.Path.{_≡_};
 ghost use lib.ListN.{length};
 ghost use Rattle.grammar.specs.Function.{readingOf, rereadingOf};
-ghost use Rattle.lexer.specs.Place.{positionOf};
+ghost use Rattle.lines.specs.Place.{positionOf};
 ghost use Rattle.zimlokur.specs.Report.{Reports, ReportsAgain};
 
 // The full reading. Returns 0, or the number of the question that refuses.
@@ -70,7 +70,7 @@ pub extern "C" fn zimlokur_reparse_define(
 pub extern "C" fn zimlokur_position(text: &[u8], place: u64, line: &mut u64, column: &mut u64)
     ensures { λ r. ⌜ (now (line .exit) ≡ positionOf (now (text .entry)) place .line) × (now (column .exit) ≡ positionOf (now (text .entry)) place .column) ⌝ }
 {
-    let at = lexer::position_of(text, place as usize);
+    let at = lines::position_of(text, place as usize);
     *line = at.line as u64;
     *column = at.column as u64;
 }

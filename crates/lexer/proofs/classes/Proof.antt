@@ -6,7 +6,7 @@ use Prim.Native.Nat.{ℕ}
 use lib.Dec.{eqb, eqb→eq}
 use lib.ListN.{getD}
 use Rattle.program.specs.Class.{classOf}
-use Rattle.lexer.proofs.Table.{at}
+use Rattle.program.specs.Lists.{table-at}
 use Rattle.lexer.proofs.classes.Statement.{statement}
 use Rattle.lexer.proofs.classes.Tie as tie
 
@@ -34,7 +34,7 @@ right k x = eqb x (classOf k)
 
 returns : tie.Need-returns
 unfolding table right classOf
-returns c = record { rule = λ b h. eqb→eq (getD table b 0) (classOf b) (at right table tt b h) }
+returns c = record { rule = λ b h. eqb→eq (getD table b 0) (classOf b) (table-at right table tt b h) }
 
 pub classes-spec : {M : Type 1} → statement M
 classes-spec = tie.close (tie.spec returns)

@@ -4,7 +4,7 @@ use mathlib.Core.List.{[]}
 use Prim.Native.Nat.{_-_, _≤_}
 use lib.ListN.{length, drop, drop-of-length-le}
 use Rattle.listing.specs.Stored.{stored, placed}
-use Rattle.lexer.proofs.Scan.{drop-next}
+use Rattle.program.specs.Lists.{drop-next}
 use borrow.Author.Needs.{needs}
 use Rattle.listing.proofs.put_from.Statement.{statement}
 use Rattle.listing.proofs.put_from.Tie as tie

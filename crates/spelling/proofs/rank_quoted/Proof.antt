@@ -7,7 +7,7 @@ use lib.ListN.{length, drop, take}
 use Rattle.grammar.specs.Lexer.{rank}
 use Rattle.lexer.specs.Table.{cut}
 use Rattle.names.specs.Names.{spelledOf}
-use Rattle.lexer.proofs.Ranks.{rank-hit, rank-miss, rank-out}
+use Rattle.keywords.proofs.Ranks.{rank-hit, rank-miss, rank-out}
 use Rattle.spelling.proofs.Letters.{as-it-is}
 use borrow.Author.Needs.{needs}
 use Rattle.spelling.proofs.rank_quoted.Statement.{statement}

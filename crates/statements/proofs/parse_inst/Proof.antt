@@ -1,7 +1,8 @@
 -- The calls are the definition's steps in the same order; the opcode's rank stands for the opcode.
 use Rattle.grammar.specs.Body.{parseInst}
 use Rattle.lexer.proofs.Laws.{val, done}
-use Rattle.statements.proofs.OpcodeLaws.{value-at, turn}
+use Rattle.statements.proofs.OpcodeLaws.{value-at}
+use Rattle.lexer.proofs.Laws.{turn}
 use Rattle.operands.proofs.RichLaws.{enrich, then-rich}
 use borrow.Author.Needs.{needs}
 use Rattle.statements.proofs.parse_inst.Statement.{statement}

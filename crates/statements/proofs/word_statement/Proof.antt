@@ -3,7 +3,8 @@ use mathlib.Core.Path.{refl, sym, _∙_}
 use Rattle.grammar.specs.Body.{wordStatement, asTerminator}
 use Rattle.lexer.proofs.Laws.{val, place-at, byte-yes, byte-no, fail-is}
 use Rattle.statements.specs.Opcodes.{asInstruction}
-use Rattle.statements.proofs.OpcodeLaws.{statement-at, statement-end, statement-plain, turn}
+use Rattle.statements.proofs.OpcodeLaws.{statement-at, statement-end, statement-plain}
+use Rattle.lexer.proofs.Laws.{turn}
 use Rattle.operands.proofs.RichLaws.{enrich, then-rich}
 use Rattle.statements.specs.Stated.{an-instruction, a-terminator}
 use Rattle.statements.proofs.StatementLaws.{is-stated, is-label, word-then, statement-none, statement-some}

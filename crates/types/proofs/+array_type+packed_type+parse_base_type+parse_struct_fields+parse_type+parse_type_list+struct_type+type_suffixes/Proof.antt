@@ -14,6 +14,8 @@ use Rattle.types.proofs.Cycles.{Member, at, below}
 use Rattle.types.proofs as types
 use Rattle.writer.proofs as writer
 use Rattle.lexer.proofs as lexer
+use Rattle.numbers.proofs as numbers
+use Rattle.leaf_types.proofs as leaf_types
 use Rattle.names.proofs as names
 use Rattle.attributes.proofs as attributes
 use Rattle.types.proofs.+array_type+packed_type+parse_base_type+parse_struct_fields+parse_type+parse_type_list+struct_type+type_suffixes as cycle
@@ -48,8 +50,8 @@ array-type-calls t = (
   writer.push.Reads.Learnt,
   lexer.eat_ws.Reads.Asked,
   lexer.eat_ws.Reads.Learnt,
-  lexer.parse_int.Reads.Asked,
-  lexer.parse_int.Reads.Learnt,
+  numbers.parse_int.Reads.Asked,
+  numbers.parse_int.Reads.Learnt,
   lexer.expect_keyword.Reads.Asked,
   lexer.expect_keyword.Reads.Learnt,
   below parse-type-fn t,
@@ -116,18 +118,18 @@ parse-base-type-calls t = (
   lexer.looks.Reads.Learnt,
   lexer.pass.Reads.Asked,
   lexer.pass.Reads.Learnt,
-  types.int_type.Reads.Asked,
-  types.int_type.Reads.Learnt,
-  types.name_node.Reads.Asked,
-  types.name_node.Reads.Learnt,
+  leaf_types.int_type.Reads.Asked,
+  leaf_types.int_type.Reads.Learnt,
+  leaf_types.name_node.Reads.Asked,
+  leaf_types.name_node.Reads.Learnt,
   below array-type-fn t,
   types.array_type.Reads.Post,
   below struct-type-fn t,
   types.struct_type.Reads.Post,
   below packed-type-fn t,
   types.packed_type.Reads.Post,
-  types.keyword_type.Reads.Asked,
-  types.keyword_type.Reads.Learnt,
+  leaf_types.keyword_type.Reads.Asked,
+  leaf_types.keyword_type.Reads.Learnt,
 )
 
 parse-base-type-met : {M : Type 1} (t : ℕ) → cycle.Lts-parse_base_type.Closed (parse-base-type-calls t) (at parse-base-type-fn t) types.parse_base_type.Reads.Post M
@@ -351,8 +353,8 @@ type-suffixes-calls t = (
   writer.replace.Reads.Learnt,
   writer.back_to.Reads.Asked,
   writer.back_to.Reads.Learnt,
-  types.opt_addrspace.Reads.Asked,
-  types.opt_addrspace.Reads.Learnt,
+  leaf_types.opt_addrspace.Reads.Asked,
+  leaf_types.opt_addrspace.Reads.Learnt,
 )
 
 type-suffixes-met : {M : Type 1} (t : ℕ) → cycle.Lts-type_suffixes.Closed (type-suffixes-calls t) (at type-suffixes-fn t) types.type_suffixes.Reads.Post M

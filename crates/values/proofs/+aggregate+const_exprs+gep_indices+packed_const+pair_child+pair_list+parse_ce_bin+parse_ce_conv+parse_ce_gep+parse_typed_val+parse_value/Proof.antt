@@ -10,13 +10,14 @@ use Rattle.lexer.proofs.Children.{two-counted}
 use lib.ListN.{length}
 use Rattle.grammar.specs.Values.{convOps, binOps, pairList, aggregate, packedConst, parseCeGep, parseCeConv, parseCeBin, constExprs, parseTypedVal}
 use Rattle.lexer.specs.Reads.{Leads, reach}
-use Rattle.lexer.proofs.Ranks.{rank-paid, rank-no}
+use Rattle.keywords.proofs.Ranks.{rank-paid, rank-no}
 use Rattle.values.proofs.ValueLaws.{child-none, none-counted, child-some, pairsOf, pairs-more, pairs-end, indicesOf, indices-more, indices-end, indices-out, holding, value-none, value-some, packed-as, pair-none, pair-some}
 use borrow.Author.Needs.{needs}
 use Rattle.types.proofs.Cycles.{Member, at, below}
 use Rattle.values.proofs as values
 use Rattle.writer.proofs as writer
 use Rattle.lexer.proofs as lexer
+use Rattle.leaf_values.proofs as leaf_values
 use Rattle.types.proofs as types
 use Rattle.attributes.proofs as attributes
 use Rattle.values.proofs.+aggregate+const_exprs+gep_indices+packed_const+pair_child+pair_list+parse_ce_bin+parse_ce_conv+parse_ce_gep+parse_typed_val+parse_value as cycle
@@ -75,12 +76,12 @@ const-exprs-calls t = (
   lexer.pass_word.Reads.Learnt,
   below parse-ce-gep-fn t,
   values.parse_ce_gep.Reads.Post,
-  values.match_conv_op.Reads.Asked,
-  values.match_conv_op.Reads.Learnt,
+  leaf_values.match_conv_op.Reads.Asked,
+  leaf_values.match_conv_op.Reads.Learnt,
   below parse-ce-conv-fn t,
   values.parse_ce_conv.Reads.Post,
-  values.match_bin_op.Reads.Asked,
-  values.match_bin_op.Reads.Learnt,
+  leaf_values.match_bin_op.Reads.Asked,
+  leaf_values.match_bin_op.Reads.Learnt,
   below parse-ce-bin-fn t,
   values.parse_ce_bin.Reads.Post,
   lexer.refuse.Reads.Asked,
@@ -313,8 +314,8 @@ parse-ce-conv-met t =
 
 abbrev parse-ce-gep-calls : ℕ → cycle.Lts-parse_ce_gep.Claims
 parse-ce-gep-calls t = (
-  values.parse_gep_flags.Reads.Asked,
-  values.parse_gep_flags.Reads.Learnt,
+  leaf_values.parse_gep_flags.Reads.Asked,
+  leaf_values.parse_gep_flags.Reads.Learnt,
   writer.push.Reads.Asked,
   writer.push.Reads.Learnt,
   lexer.expect_token.Reads.Asked,
@@ -375,8 +376,8 @@ parse-value-calls t = (
   lexer.eat_ws.Reads.Learnt,
   lexer.refuse.Reads.Asked,
   lexer.refuse.Reads.Learnt,
-  values.leaf_value.Reads.Asked,
-  values.leaf_value.Reads.Learnt,
+  leaf_values.leaf_value.Reads.Asked,
+  leaf_values.leaf_value.Reads.Learnt,
   lexer.looks.Reads.Asked,
   lexer.looks.Reads.Learnt,
   lexer.pass.Reads.Asked,

@@ -9,8 +9,8 @@ use borrow.Author.Needs.{needs}
 use borrow.Author.Tests.{eq-eqb, ne-eqb}
 use Rattle.arithmetic.specs.Decimals.{poweredBits, floatIn, exponentBits, bitsOf}
 use Rattle.arithmetic.specs.declared.mantissa.Mantissa.{Mantissa}
-use Rattle.lexer.specs.declared.Val.the-variants.{Exact, Over}
-use Rattle.lexer.specs.declared.Val.{Val}
+use Rattle.arithmetic.specs.declared.number.Val.the-variants.{Exact, Over}
+use Rattle.arithmetic.specs.declared.number.Val.{Val}
 use Rattle.arithmetic.proofs.Scale.{none-are}
 use Rattle.arithmetic.proofs.decimal.decimal_bits.Statement.{statement}
 use Rattle.arithmetic.proofs.decimal.decimal_bits.Tie as tie

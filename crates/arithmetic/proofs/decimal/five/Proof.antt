@@ -6,7 +6,7 @@ use Prim.Native.Nat.{ℕ, _^_}
 use lib.Dec.{eqb, eqb→eq}
 use lib.ListN.{getD}
 use borrow.Author.Needs.{needs}
-use Rattle.lexer.proofs.Table.{at}
+use Rattle.program.specs.Lists.{table-at}
 use Rattle.arithmetic.proofs.decimal.five.Statement.{statement}
 use Rattle.arithmetic.proofs.decimal.five.Tie as tie
 
@@ -20,7 +20,7 @@ right k x = eqb x (5 ^ k)
 
 returns : tie.Need-returns
 unfolding powers right
-returns c = eqb→eq (getD powers (c .args .k) 0) (5 ^ c .args .k) (at right powers tt (c .args .k) (search needs))
+returns c = eqb→eq (getD powers (c .args .k) 0) (5 ^ c .args .k) (table-at right powers tt (c .args .k) (search needs))
 
 pub five-spec : {M : Type 1} → statement M
 five-spec = tie.close (tie.spec (λ c. search needs) (λ c. search needs) returns)

@@ -1,7 +1,7 @@
 -- No digits.
 -- Assumes nothing.
 use mathlib.Core.Path.{refl}
-use Rattle.lexer.specs.Number.{capped}
+use Rattle.arithmetic.specs.Number.{capped}
 use Rattle.arithmetic.proofs.number.none.Statement.{statement}
 use Rattle.arithmetic.proofs.number.none.Tie as tie
 

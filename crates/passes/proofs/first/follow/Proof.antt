@@ -6,10 +6,10 @@ use lib.ListN.{length}
 use Rattle.theorem_edits.specs.Law.{commonEnd-le}
 use Rattle.records.specs.Pieces.{refused}
 use Rattle.texts.specs.Verdicts.{verdict}
-use Rattle.keeping.specs.Answers.{Joins}
+use Rattle.older.specs.Answers.{Joins}
 use Rattle.directory.specs.Olds.{oldsOf, JoinsAt, JoinsNot}
-use Rattle.keeping.proofs.Judge.{fitting}
-use Rattle.passes.specs.Parts.{Asked}
+use Rattle.rooms.proofs.Judge.{fitting}
+use Rattle.rooms.specs.Rooms.{Asked}
 use Rattle.passes.proofs.Dry.{took-inside, took-passed, took-size, took-room, took-more, took-refused, took-keep}
 use borrow.Author.Needs.{needs}
 use Rattle.passes.proofs.first.follow.Statement.{statement}

@@ -3,7 +3,7 @@ use mathlib.Core.Path.{subst}
 use Prim.Native.Nat.{_+_, _-_, _≤_, _<_}
 use native.Mathlib.Omega.{arith}
 use lib.ListN.{length}
-use Rattle.passes.specs.Parts.{Asked}
+use Rattle.rooms.specs.Rooms.{Asked}
 use Rattle.passes.specs.Numbered.{PieceDry}
 use Rattle.passes.specs.First.{Dry, Follows}
 use Rattle.passes.proofs.Dry.{all-kept, dry-first, dry-bad, dry-tail-inside, dry-tail-room, dry-tail, took-inside, took-on, falls}

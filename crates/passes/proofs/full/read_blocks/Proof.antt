@@ -3,8 +3,9 @@ use mathlib.Core.Path.{_∙_, subst}
 use Prim.Native.Nat.{_+_, _-_}
 use native.Mathlib.Omega.{arith}
 use lib.ListN.{length, drop, length-drop}
-use Rattle.keeping.proofs.Judge.{fitting}
-use Rattle.passes.specs.Parts.{BlockIn, Asked}
+use Rattle.rooms.proofs.Judge.{fitting}
+use Rattle.rooms.specs.Rooms.{Asked}
+use Rattle.passes.specs.Parts.{BlockIn}
 use Rattle.passes.specs.Full.{Come}
 use Rattle.passes.proofs.Whole.{block-bad, tail-inside, tail-room, tail-whole, block-inside, block-on, block-room, block-come}
 use borrow.Author.Needs.{needs}

@@ -3,8 +3,9 @@ use mathlib.Core.Path.{refl, subst}
 use Prim.Native.Nat.{_+_}
 use native.Mathlib.Omega.{arith}
 use lib.ListN.{length}
-use Rattle.keeping.proofs.Judge.{fitting}
-use Rattle.passes.specs.Parts.{HeadIn, Asked}
+use Rattle.rooms.proofs.Judge.{fitting}
+use Rattle.rooms.specs.Rooms.{Asked}
+use Rattle.passes.specs.Parts.{HeadIn}
 use Rattle.passes.proofs.Whole.{no-head, head-inside, head-room, head-come, come-own, ended-as}
 use borrow.Author.Needs.{needs}
 use Rattle.passes.proofs.full.read_pieces.Statement.{statement}

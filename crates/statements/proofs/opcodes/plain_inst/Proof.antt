@@ -3,7 +3,8 @@ use mathlib.Core.Path.{_≡_, ap}
 use native.Mathlib.Omega.{arith}
 use Rattle.lexer.proofs.Laws.{fail-is}
 use Rattle.statements.specs.Opcodes.{plainAt}
-use Rattle.statements.proofs.OpcodeLaws.{plain-tail, plain-none, turn}
+use Rattle.statements.proofs.OpcodeLaws.{plain-tail, plain-none}
+use Rattle.lexer.proofs.Laws.{turn}
 use Rattle.statements.proofs.StatementLaws.{paid, paid-rich}
 use borrow.Author.Needs.{needs}
 use Rattle.statements.proofs.opcodes.plain_inst.Statement.{statement}

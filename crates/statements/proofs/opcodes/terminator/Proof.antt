@@ -2,7 +2,7 @@
 use mathlib.Core.Path.{_≡_, ap}
 use native.Mathlib.Omega.{arith}
 use Rattle.statements.specs.Opcodes.{terminatorAt}
-use Rattle.statements.proofs.OpcodeLaws.{turn}
+use Rattle.lexer.proofs.Laws.{turn}
 use Rattle.statements.proofs.StatementLaws.{paid, paid-rich}
 use Rattle.statements.proofs.opcodes.terminator.Statement.{statement}
 use Rattle.statements.proofs.opcodes.terminator.Tie as tie

@@ -4,7 +4,8 @@ use mathlib.Core.Path.{_≡_, ap}
 use native.Mathlib.Omega.{arith}
 use Rattle.lexer.proofs.Laws.{fail-is}
 use Rattle.statements.specs.Opcodes.{valueAt}
-use Rattle.statements.proofs.OpcodeLaws.{value-bin, value-fbin, value-conv, value-tail, value-none, turn}
+use Rattle.statements.proofs.OpcodeLaws.{value-bin, value-fbin, value-conv, value-tail, value-none}
+use Rattle.lexer.proofs.Laws.{turn}
 use Rattle.statements.proofs.StatementLaws.{above, paid, paid-rich}
 use borrow.Author.Needs.{needs}
 use Rattle.statements.proofs.opcodes.value_inst.Statement.{statement}
