@@ -106,6 +106,7 @@ enum zimlokur_kind {
  * has the ranks). A head has its linkage, plus ZIMLOKUR_D_VARARGS. ZIMLOKUR_D_CONDITION is two bits: a condition, and a second target. */
 enum zimlokur_detail {
     ZIMLOKUR_D_VARARGS = 128,
+    ZIMLOKUR_D_NONE = 0,
     ZIMLOKUR_D_PACKED = 1,
     ZIMLOKUR_D_DOTS = 1,
     ZIMLOKUR_D_INBOUNDS = 1,

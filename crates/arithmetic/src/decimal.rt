@@ -1,5 +1,7 @@
 // Decimals over whole numbers. 01: "the binary64 nearest its value, ties to even, defined over whole numbers"; "Supported: zero, or at most 15
 // digits without outer zeros, times ten to the -22 up to 22."
+use crate::ieee::UNIT64;
+use crate::mantissa::DIGITS_LIMIT;
 use crate::mantissa::Mantissa;
 use crate::mantissa::count;
 use crate::number::Val;
@@ -7,6 +9,15 @@ ghost use mathlib.Core.Path.{_≡_};
 ghost use Prim.Native.Nat.{_+_, _-_, _*_, _/_, _%_, _^_, _<_, _≤_};
 ghost use Rattle.grammar.specs.Numbers.{rounded, nearest, scaledBits};
 ghost use Rattle.arithmetic.specs.Decimals.{Doubled, Scaled, Product, Unsigned, bitsOf, poweredBits, floatIn};
+
+// "times ten to the -22 up to 22"
+const POWER_LIMIT: u64 = 22;
+
+// An exponent from here on brings every number out of range: counts stop below it.
+const EXPONENT_LIMIT: u64 = 9223372036854775808;
+
+// Half of a significand, 2^26.
+const HALF: u64 = 67108864;
 
 // "A constant table of powers of five from 0 to 22".
 const POWERS: [u64; 23] = [
@@ -77,7 +88,7 @@ fn scaled(q0: u64, rest0: u64, d: u64) -> Significand
     let mut q = q0;
     let mut rest = rest0;
     let mut n = 0;
-    while q < 4503599627370496 {
+    while q < UNIT64 {
         let p = doubled(q, rest, d);
         q = p.q;
         rest = p.rest;
@@ -91,16 +102,16 @@ fn product(a: u64, b: u64) -> Parts
     requires { ⌜ (a < 2 ^ 52) × (b < 2 ^ 52) ⌝ }
     ensures { λ r. ⌜ Product (a * b) r ⌝ }
 {
-    let a1 = a / 67108864;
-    let a0 = a % 67108864;
-    let b1 = b / 67108864;
-    let b0 = b % 67108864;
+    let a1 = a / HALF;
+    let a0 = a % HALF;
+    let b1 = b / HALF;
+    let b0 = b % HALF;
     let w = a0 * b0;
-    let t = a1 * b0 + w / 67108864;
-    let u = t % 67108864 + a0 * b1;
+    let t = a1 * b0 + w / HALF;
+    let u = t % HALF + a0 * b1;
     Parts {
-        q: a1 * b1 + t / 67108864 + u / 67108864,
-        rest: u % 67108864 * 67108864 + w % 67108864,
+        q: a1 * b1 + t / HALF + u / HALF,
+        rest: u % HALF * HALF + w % HALF,
     }
 }
 
@@ -128,8 +139,8 @@ fn nearest_up(m: u64, k: usize) -> u64
     ensures { λ r. ⌜ (r ≡ nearest (m * 10 ^ k) 1) × (r < 2 ^ 63) ⌝ }
 {
     let p = product(m, five(k));
-    let s = scaled(p.q, p.rest, 4503599627370496);
-    (1126 + k as u64 - s.n) * 4503599627370496 + rounding(s.q, s.rest, 4503599627370496)
+    let s = scaled(p.q, p.rest, UNIT64);
+    (1126 + k as u64 - s.n) * UNIT64 + rounding(s.q, s.rest, UNIT64)
 }
 
 // The binary64 nearest m divided by ten to the k.
@@ -139,7 +150,7 @@ fn nearest_down(m: u64, k: usize) -> u64
 {
     let d = five(k);
     let s = scaled(m / d, m % d, d);
-    (1074 - k as u64 - s.n) * 4503599627370496 + rounding(s.q, s.rest, d)
+    (1074 - k as u64 - s.n) * UNIT64 + rounding(s.q, s.rest, d)
 }
 
 // A decimal's bits, or question 17.
@@ -153,18 +164,18 @@ fn scaled_bits(m: u64, up: u64, down: u64) -> Decimal
     requires { ⌜ 0 < m ⌝ }
     ensures { λ r. ⌜ (bitsOf r ≡ scaledBits m up down) × Unsigned r ⌝ }
 {
-    if 1000000000000000 <= m {
+    if DIGITS_LIMIT <= m {
         return Decimal::Unsupported;
     }
     if down <= up {
         let k = up - down;
-        if 22 < k {
+        if POWER_LIMIT < k {
             return Decimal::Unsupported;
         }
         return Decimal::Bits(nearest_up(m, k as usize));
     }
     let k = down - up;
-    if 22 < k {
+    if POWER_LIMIT < k {
         return Decimal::Unsupported;
     }
     Decimal::Bits(nearest_down(m, k as usize))
@@ -177,7 +188,7 @@ fn powered(m: u64, zeros: u64, behind: u64, e: u64, down: bool) -> Decimal
 {
     let z = count(zeros);
     let b = count(behind);
-    if 9223372036854775808 <= e {
+    if EXPONENT_LIMIT <= e {
         return Decimal::Unsupported;
     }
     if down {

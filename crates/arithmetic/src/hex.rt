@@ -1,4 +1,13 @@
 // The bits of floats. 01: "`0x` or `0X` takes 1 to 16 hex digits as bits; `f0x` exactly 8 (binary32 widened) or 16."
+use crate::ieee::BIAS;
+use crate::ieee::INFINITY64;
+use crate::ieee::MOVED;
+use crate::ieee::QUIET32;
+use crate::ieee::SIGN32;
+use crate::ieee::SIGN64;
+use crate::ieee::TOP32;
+use crate::ieee::UNIT32;
+use crate::ieee::UNIT64;
 use crate::number::wide;
 ghost use mathlib.Core.Path.{_≡_};
 ghost use Prim.Native.Nat.{_+_, _-_, _*_, _^_, _<_};
@@ -45,7 +54,7 @@ fn subnormal(f: u32) -> u64
     ensures { λ r. ⌜ (r ≡ subnormalBits f) × (r < 2 ^ 63) ⌝ }
 {
     let z = u32::leading_zeros(f);
-    (904 - wide32(z)) * 4503599627370496 + (wide32(f) << (z + 21))
+    (904 - wide32(z)) * UNIT64 + (wide32(f) << (z + 21))
 }
 
 // Infinity and NaN without their sign. "A NaN keeps its payload with the quiet bit set."
@@ -54,22 +63,22 @@ fn special(f: u64) -> u64
     ensures { λ r. ⌜ (r ≡ specialBits f) × (r < 2 ^ 63) ⌝ }
 {
     if f == 0 {
-        return 9218868437227405312;
+        return INFINITY64;
     }
-    if 4194304 <= f {
-        return 9218868437227405312 + f * 536870912;
+    if QUIET32 <= f {
+        return INFINITY64 + f * MOVED;
     }
-    9218868437227405312 + (f + 4194304) * 536870912
+    INFINITY64 + (f + QUIET32) * MOVED
 }
 
 // A binary32 as a binary64, both as bits.
 pub fn widen_bits(b: u32) -> u64
     ensures { λ r. ⌜ r ≡ widen b ⌝ }
 {
-    let s = wide32(b / 2147483648) * 9223372036854775808;
-    let e = wide32(b / 8388608 % 256);
-    let f = b % 8388608;
-    if e == 255 {
+    let s = wide32(b / SIGN32) * SIGN64;
+    let e = wide32(b / UNIT32 % 256);
+    let f = b % UNIT32;
+    if e == TOP32 {
         return s + special(wide32(f));
     }
     if e == 0 {
@@ -78,5 +87,5 @@ pub fn widen_bits(b: u32) -> u64
         }
         return s + subnormal(f);
     }
-    s + ((e + 896) * 4503599627370496 + wide32(f) * 536870912)
+    s + ((e + BIAS) * UNIT64 + wide32(f) * MOVED)
 }

@@ -7,6 +7,12 @@ ghost use lib.Dec.{leb};
 ghost use Rattle.grammar.specs.Numbers.{largest, twos};
 ghost use Rattle.arithmetic.specs.Integers.{magnitudeOf, pushed, signedOf};
 
+// A magnitude whose high word is below it, 2^63, is that of a signed number of 128 bits.
+const HIGH_LIMIT: u64 = 9223372036854775808;
+
+// Ten times a number below it, 2^60, and a digit fit 64 bits.
+pub const TENFOLD_LIMIT: u64 = 1152921504606846976;
+
 // A whole number below 2^128. Where `over`, one that is not below, and both halves are 0.
 pub struct Magnitude {
     pub hi: u64,
@@ -35,10 +41,10 @@ pub fn nothing() -> Magnitude
 fn carried(hi: u64, lo: u64, d: u8) -> Magnitude
     ensures { λ r. ⌜ r ≡ magnitudeOf ((hi * 2 ^ 64 + lo) * 10 + d) ⌝ }
 {
-    let t0 = lo % 4294967296 * 10 + wide(d);
-    let t1 = lo / 4294967296 * 10 + t0 / 4294967296;
-    let carry = t1 / 4294967296;
-    if (18446744073709551615 - carry) / 10 < hi {
+    let t0 = lo % records::HALF * 10 + wide(d);
+    let t1 = lo / records::HALF * 10 + t0 / records::HALF;
+    let carry = t1 / records::HALF;
+    if (records::NUMBER_LIMIT - carry) / 10 < hi {
         return Magnitude {
             hi: 0,
             lo: 0,
@@ -47,7 +53,7 @@ fn carried(hi: u64, lo: u64, d: u8) -> Magnitude
     }
     Magnitude {
         hi: hi * 10 + carry,
-        lo: t1 % 4294967296 * 4294967296 + t0 % 4294967296,
+        lo: t1 % records::HALF * records::HALF + t0 % records::HALF,
         over: false,
     }
 }
@@ -62,7 +68,7 @@ pub fn push(a: Magnitude, d: u8) -> Magnitude
     let hi = a.hi;
     let lo = a.lo;
     if hi == 0 {
-        if lo < 1152921504606846976 {
+        if lo < TENFOLD_LIMIT {
             return Magnitude {
                 hi: 0,
                 lo: lo * 10 + wide(d),
@@ -77,11 +83,11 @@ pub fn push(a: Magnitude, d: u8) -> Magnitude
 fn in_range(hi: u64, lo: u64, neg: bool) -> bool
     ensures { λ r. ⌜ r ≡ leb (hi * 2 ^ 64 + lo) (largest neg) ⌝ }
 {
-    if hi < 9223372036854775808 {
+    if hi < HIGH_LIMIT {
         return true;
     }
     if neg {
-        if hi == 9223372036854775808 {
+        if hi == HIGH_LIMIT {
             if lo == 0 {
                 return true;
             }
@@ -103,13 +109,13 @@ fn negated(hi: u64, lo: u64) -> Words
 {
     if lo != 0 {
         return Words {
-            hi: 18446744073709551615 - hi,
-            lo: 18446744073709551615 - lo + 1,
+            hi: records::NUMBER_LIMIT - hi,
+            lo: records::NUMBER_LIMIT - lo + 1,
         };
     }
     if hi != 0 {
         return Words {
-            hi: 18446744073709551615 - hi + 1,
+            hi: records::NUMBER_LIMIT - hi + 1,
             lo: 0,
         };
     }

@@ -2,6 +2,7 @@
 // questions 7 and 17.
 pub mod decimal;
 pub mod hex;
+pub mod ieee;
 pub mod integer;
 pub mod literal;
 pub mod mantissa;

@@ -33,7 +33,7 @@ pub fn f0x_literal(h: Hex) -> Literal
     let bits = h.bits;
     let count = h.count;
     if count == 8 {
-        let b = (bits % 4294967296) as u32;
+        let b = (bits % records::HALF) as u32;
         return Literal::Float(widen_bits(b));
     }
     if count == 16 {

@@ -5,6 +5,16 @@ ghost use mathlib.Core.Path.{_≡_};
 ghost use Prim.Native.Nat.{_+_, _*_, _^_, _<_};
 ghost use Rattle.arithmetic.specs.Decimals.{counted, noDigits, manyDigits, fewDigits, significantPushed, digitPushed};
 
+// "at most 15 digits": sig is below ten to that many.
+const DIGITS: u64 = 15;
+
+pub const DIGITS_LIMIT: u64 = 1000000000000000;
+
+const LARGEST: u64 = DIGITS_LIMIT - 1;
+
+// Counts stop at 2^62: no text has as many bytes.
+const COUNT_LIMIT: u64 = 4611686018427387904;
+
 // The digits so far are sig, without the zeros in front, and then so many zeros; many, if sig were of more than 15 digits. Without a digit
 // that is not zero, sig and zeros are 0.
 pub struct Mantissa {
@@ -13,24 +23,24 @@ pub struct Mantissa {
     pub many: bool,
 }
 
-// Counts stop at 2^62: no text has as many bytes.
+// A count, up to its limit.
 pub fn count(n: u64) -> u64
     ensures { λ r. ⌜ r ≡ counted n ⌝ }
 {
-    if n <= 4611686018427387904 {
+    if n <= COUNT_LIMIT {
         return n;
     }
-    4611686018427387904
+    COUNT_LIMIT
 }
 
 // One more.
 pub fn count_on(n: u64) -> u64
     ensures { λ r. ⌜ r ≡ counted (n + 1) ⌝ }
 {
-    if n < 4611686018427387904 {
+    if n < COUNT_LIMIT {
         return n + 1;
     }
-    4611686018427387904
+    COUNT_LIMIT
 }
 
 // Before the first digit.
@@ -57,7 +67,7 @@ fn too_many() -> Mantissa
 fn few(x: u64) -> Mantissa
     ensures { λ r. ⌜ r ≡ fewDigits x 0 ⌝ }
 {
-    if x < 1000000000000000 {
+    if x < DIGITS_LIMIT {
         return Mantissa {
             sig: x,
             zeros: 0,
@@ -79,7 +89,7 @@ fn joined(sig: u64, p: u64, d: u8) -> Mantissa
     requires { ⌜ 0 < p ⌝ }
     ensures { λ r. ⌜ r ≡ fewDigits (sig * p + d) 0 ⌝ }
 {
-    if 999999999999999 / p < sig {
+    if LARGEST / p < sig {
         return too_many();
     }
     few(sig * p + wide(d))
@@ -89,7 +99,7 @@ fn joined(sig: u64, p: u64, d: u8) -> Mantissa
 fn significant(sig: u64, zeros: u64, d: u8) -> Mantissa
     ensures { λ r. ⌜ r ≡ significantPushed sig zeros d ⌝ }
 {
-    if 15 <= zeros {
+    if DIGITS <= zeros {
         return too_many();
     }
     if zeros == 0 {

@@ -2,6 +2,7 @@
 // a numeral cut anywhere goes on from the state of its first part.
 use crate::decimal::Decimal;
 use crate::decimal::decimal_bits;
+use crate::ieee::SIGN64;
 use crate::integer::Integer;
 use crate::integer::Magnitude;
 use crate::integer::nothing;
@@ -139,7 +140,7 @@ fn float(s: Fold, neg: bool) -> Literal
     match decimal_bits(m, s.behind, p, s.down) {
         Decimal::Bits(b) => {
             if neg {
-                return Literal::Float(9223372036854775808 + b);
+                return Literal::Float(SIGN64 + b);
             }
             Literal::Float(b)
         }

@@ -30,7 +30,7 @@ use Rattle.operands.specs.Rich.{Rich, richly}
 use Rattle.operands.proofs.RichLaws.{enrich}
 use Rattle.directory.specs.Piece.{BlockIs, is-block, is-tail, no-block, Holds}
 use Rattle.directory.specs.declared.pieces.Piece.{Piece}
-use Rattle.statements.specs.Stated.{Which, a-label, an-instruction, a-terminator, StatementEnds, stated-at, no-statement, stated}
+use Rattle.blocks.specs.Stated.{Which, a-label, an-instruction, a-terminator, StatementEnds, stated-at, no-statement, stated}
 use Rattle.blocks.specs.Bodied.{BodyEnds, through, shut, no-body, bodied}
 use Rattle.closing.specs.Pieces.{pieceOf, tailOf}
 

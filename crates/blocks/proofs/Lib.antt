@@ -1,1 +1,3 @@
+pub mod OpcodeLaws
+pub mod StatementLaws
 pub mod BlockLaws

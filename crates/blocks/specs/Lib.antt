@@ -1,1 +1,3 @@
 pub mod Bodied
+pub mod Opcodes
+pub mod Stated

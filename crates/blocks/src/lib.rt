@@ -1,4 +1,7 @@
 // Blocks and the tail (parser.rs `parse_body`): a piece from its first statement through its terminator or `}`.
+pub mod opcodes; // opcodes.rt: the rank of an opcode, and the reader of each
+pub mod statements; // statements.rt: a statement by its first word
+
 use directory::pieces::Piece;
 use lexer::Cursor;
 use lexer::Parsed;

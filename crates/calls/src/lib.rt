@@ -183,7 +183,7 @@ pub fn parse_call(
         let q5 = func_type(classes, text, words, q4, s);
         return call_rest(classes, text, words, p, q5, records::D_FUNCTION_TYPE, 3);
     }
-    call_rest(classes, text, words, p, q3, 0, 2)
+    call_rest(classes, text, words, p, q3, records::D_NONE, 2)
 }
 
 // `tail call` and its like, behind the first word.

@@ -32,7 +32,7 @@ pub fn finish_block(
     if n < CHILDREN {
         let p1 = writer::patch(words, p0, p, 1, label);
         let m = (n + 1) as u16;
-        return writer::close(words, p0, p1, records::K_BLOCK, 0, m);
+        return writer::close(words, p0, p1, records::K_BLOCK, records::D_NONE, m);
     }
     if CHILDREN < n {
         return lexer::refuse_at(p, records::Q_CHILDREN, over);

@@ -11,7 +11,7 @@ use Rattle.records.specs.Words.{pack, node}
 use Rattle.records.specs.Kinds.{kind, Head, Block, Param}
 use Rattle.records.specs.Limits.{turns, depthLimit, childLimit, listTurns}
 use Rattle.records.specs.Questions.{qToken, qType, qStatement, qOpcode, qChildren}
-use Rattle.records.specs.Details.{dVarargs, dDots, dNamed}
+use Rattle.records.specs.Details.{dNone, dVarargs, dDots, dNamed}
 use Rattle.grammar.specs.Lexer.{refuse, place, eatWs, byteIf, expectToken, Word, isEmptyWord, sizeOf, spelled, readWord, nameWord, parseGlobalName}
 use Rattle.grammar.specs.Attributes.{parseLinkage, skipAttrs, skipCallCconv}
 use Rattle.grammar.specs.Types.{Listed, listed, countOf, dotsOf, wordsOf, child, whole, behind, dotsList, parseType}
@@ -62,7 +62,7 @@ parseStatement = byteIf (byte "%") parseInst wordStatement
 unfoldable pub finishBlock : ℕ → ℕ → ℕ → List ℕ → List ℕ → Prog (List ℕ)
 finishBlock l n over acc term =
     elim (ltb n childLimit) [
-      | true ↦ ret (node (kind Block) 0 (n + 1) (l ∷ (acc ++ term)))
+      | true ↦ ret (node (kind Block) dNone (n + 1) (l ∷ (acc ++ term)))
       | false ↦ elim (ltb childLimit n) [ true ↦ fail qChildren over | false ↦ refuse qChildren ]
     ]
 
@@ -94,7 +94,7 @@ parseBlock = parseBody turns 0 0 0 []
 unfoldable pub paramOf : List ℕ → Prog (List ℕ)
 paramOf t = do
   _ ← eatWs
-  byteIf (byte "%") (nameWord >>= λ n. ret (node (kind Param) dNamed 1 (n ∷ t))) (ret (node (kind Param) 0 1 (0 ∷ t)))
+  byteIf (byte "%") (nameWord >>= λ n. ret (node (kind Param) dNamed 1 (n ∷ t))) (ret (node (kind Param) dNone 1 (0 ∷ t)))
 
 unfoldable pub parseParam : ℕ → Prog (List ℕ)
 parseParam q = do

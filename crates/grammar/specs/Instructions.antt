@@ -14,7 +14,7 @@ use Rattle.records.specs.Words.{header, node}
 use Rattle.records.specs.Kinds.{kind, Func, IntConst, Bin, FBin, FNeg, Conv, ICmp, FCmp, Select, Load, Store, Alloca, Gep, Phi, Call, Freeze, AtomicLoad, AtomicStore, Cmpxchg, ExtractValue, Fence, Ret, Br, Switch, Unreachable, Name}
 use Rattle.records.specs.Limits.{turns, indexLimit, numberLimit, depthLimit, listDepth, listTurns}
 use Rattle.records.specs.Questions.{qToken, qType, qValue, qStatement, qOpcode, qPredicate, qTrailing, qCase, qLeftOut, qChildren}
-use Rattle.records.specs.Details.{dCount, dAllocaAlign, dFunctionType, dCondition, dValue}
+use Rattle.records.specs.Details.{dNone, dCount, dAllocaAlign, dFunctionType, dCondition, dValue}
 use Rattle.grammar.specs.Lexer.{refuse, eatWs, byteIf, byteAtIf, wordIf, rankIf, tokenIf, expectToken, expectKeyword, skipKeyword, skipOne, skipAll, sameWord, rank, parseLocalName, skipParens, skipMetadataRef}
 use Rattle.grammar.specs.Numbers.{parseInt}
 use Rattle.grammar.specs.Attributes.{skipAttrs, skipCallCconv, skipArithFlags, skipFastMathFlags, convFlags}
@@ -30,7 +30,7 @@ value = parseValue depthLimit
 
 -- "Branch, switch and phi labels are the other names": a child of kind 63
 unfoldable pub labelNode : ℕ → List ℕ
-labelNode n = node (kind Name) 0 0 (n ∷ [])
+labelNode n = node (kind Name) dNone 0 (n ∷ [])
 
 -- a typed value whose type is dropped
 unfoldable pub parseOperand : Prog (List ℕ)
@@ -98,7 +98,7 @@ parseFbin op dest = skipFastMathFlags >>= λ _. binary (kind FBin) op dest
 
 -- T V to the end
 unfoldable pub unary : (k dest : ℕ) → Prog (List ℕ)
-unary k dest = parseTypedVal depthLimit >>= λ x. ending k 0 2 (dest ∷ x)
+unary k dest = parseTypedVal depthLimit >>= λ x. ending k dNone 2 (dest ∷ x)
 
 unfoldable pub parseFneg : ℕ → Prog (List ℕ)
 parseFneg dest = skipFastMathFlags >>= λ _. unary (kind FNeg) dest
@@ -148,7 +148,7 @@ parseSelect dest = do
   x ← parseTypedVal depthLimit
   _ ← expectToken (byte ",")
   y ← parseOperand
-  ending (kind Select) 0 4 (dest ∷ ((c ++ x) ++ y))
+  ending (kind Select) dNone 4 (dest ∷ ((c ++ x) ++ y))
 
 -- T, T V
 unfoldable pub loadOperands : Prog (List ℕ)
@@ -201,7 +201,7 @@ parseCmpxchg dest = do
   n ← parseOperand
   _ ← skipAtomicOrdering
   _ ← skipAtomicOrdering
-  ending (kind Cmpxchg) 0 4 (dest ∷ (((t ++ p) ++ c) ++ n))
+  ending (kind Cmpxchg) dNone 4 (dest ∷ (((t ++ p) ++ c) ++ n))
 
 -- Question 15: "index below 2^32"
 unfoldable pub parseExtractvalue : ℕ → Prog (List ℕ)
@@ -210,10 +210,10 @@ parseExtractvalue dest = do
   _ ← expectToken (byte ",")
   _ ← eatWs
   n ← parseInt 0 indexLimit
-  ending (kind ExtractValue) 0 1 (dest ∷ (n ∷ a))
+  ending (kind ExtractValue) dNone 1 (dest ∷ (n ∷ a))
 
 unfoldable pub parseFence : Prog (List ℕ)
-parseFence = skipAtomicOrdering >>= λ _. ending (kind Fence) 0 0 (0 ∷ [])
+parseFence = skipAtomicOrdering >>= λ _. ending (kind Fence) dNone 0 (0 ∷ [])
 
 -- an alloca's type, and the clauses behind it
 unfoldable pub allocaNode : ℕ → List ℕ → Clauses → List ℕ
@@ -241,7 +241,7 @@ gepInstIndices (suc u) n acc =
 
 unfoldable pub parseGepInst : ℕ → Prog (List ℕ)
 parseGepInst dest = do
-  inbounds ← parseGepFlags turns 0
+  inbounds ← parseGepFlags turns dNone
   t ← type qToken
   _ ← expectToken (byte ",")
   p ← parseOperand
@@ -263,7 +263,7 @@ unfoldable pub parsePhi : ℕ → Prog (List ℕ)
 parsePhi dest = do
   t ← type qToken
   l ← phiItems listTurns 1 []
-  ret (node (kind Phi) 0 (countOf l) (dest ∷ (t ++ wordsOf l)))
+  ret (node (kind Phi) dNone (countOf l) (dest ∷ (t ++ wordsOf l)))
 
 unfoldable pub parseFreeze : ℕ → Prog (List ℕ)
 parseFreeze dest = unary (kind Freeze) dest
@@ -300,7 +300,7 @@ callOf dest (plain t) =
     (do
       l ← parseTypeList qType (parseType listDepth)
       callRest dest dFunctionType 3 (t ++ funcNode t l))
-    (callRest dest 0 2 t)
+    (callRest dest dNone 2 t)
 callOf dest (opened t l j) = callRest dest dFunctionType 3 (t ++ funcNode t l)
 
 unfoldable pub parseCall : ℕ → Prog (List ℕ)
@@ -318,7 +318,7 @@ parseTailCall dest = expectKeyword (bytes "call") >>= λ _. parseCall dest
 unfoldable pub parseRet : Prog (List ℕ)
 parseRet = do
   _ ← eatWs
-  wordIf (bytes "void") (ending (kind Ret) 0 0 []) (parseTypedVal depthLimit >>= λ x. ending (kind Ret) dValue 2 x)
+  wordIf (bytes "void") (ending (kind Ret) dNone 0 []) (parseTypedVal depthLimit >>= λ x. ending (kind Ret) dValue 2 x)
 
 unfoldable pub target : Prog ℕ
 target = do
@@ -330,7 +330,7 @@ unfoldable pub parseBr : Prog (List ℕ)
 parseBr = do
   _ ← eatWs
   wordIf (bytes "label")
-      (parseLocalName >>= λ l. ending (kind Br) 0 1 (labelNode l))
+      (parseLocalName >>= λ l. ending (kind Br) dNone 1 (labelNode l))
       (do
         c ← parseOperand
         a ← target
@@ -339,7 +339,7 @@ parseBr = do
 
 -- a case's integer: the value's two words (question 12, behind the value); an integer's node has this header, and no other node
 unfoldable pub caseInt : Prog (List ℕ)
-caseInt = parseOperand >>= λ v. elim (eqb (getD v 0 0) (header (kind IntConst) 0 0 3)) [ true ↦ ret (getD v 1 0 ∷ getD v 2 0 ∷ []) | false ↦ refuse qCase ]
+caseInt = parseOperand >>= λ v. elim (eqb (getD v 0 0) (header (kind IntConst) dNone 0 3)) [ true ↦ ret (getD v 1 0 ∷ getD v 2 0 ∷ []) | false ↦ refuse qCase ]
 
 -- a switch's cases: the children so far, their integers, the nodes of their labels
 pub data Cases : Type 0 where
@@ -355,7 +355,7 @@ switchCases (suc u) n ints labels =
       switchCases u (n + 1) (ints ++ c) (labels ++ labelNode l))
 
 unfoldable pub switchNode : List ℕ → ℕ → Cases → List ℕ
-switchNode x def (cases n ints labels) = node (kind Switch) 0 n (((ints ++ x) ++ labelNode def) ++ labels)
+switchNode x def (cases n ints labels) = node (kind Switch) dNone n (((ints ++ x) ++ labelNode def) ++ labels)
 
 unfoldable pub parseSwitch : Prog (List ℕ)
 parseSwitch = do
@@ -367,7 +367,7 @@ parseSwitch = do
   ret (switchNode x def c)
 
 unfoldable pub parseUnreachable : Prog (List ℕ)
-parseUnreachable = ending (kind Unreachable) 0 0 []
+parseUnreachable = ending (kind Unreachable) dNone 0 []
 
 -- Opcodes.
 -- `FBinOp`, in ast.rs order

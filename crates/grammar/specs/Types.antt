@@ -11,7 +11,7 @@ use Rattle.records.specs.Words.{header, node}
 use Rattle.records.specs.Kinds.{kind, Void, Int, Float, Double, Ptr, Array, Named, Struct, Label, Metadata}
 use Rattle.records.specs.Limits.{turns, widthLimit, numberLimit, childLimit, listTurns}
 use Rattle.records.specs.Questions.{qToken, qType, qDepth, qChildren}
-use Rattle.records.specs.Details.{dPacked, dDots}
+use Rattle.records.specs.Details.{dNone, dPacked, dDots}
 use Rattle.grammar.specs.Lexer.{refuse, place, eatWs, byteIf, wordIf, tokenIf, expectToken, expectKeyword, dotsIf, nameWord, skipParens}
 use Rattle.grammar.specs.Numbers.{parseInt}
 use Rattle.grammar.specs.Attributes.{skipAttrs}
@@ -92,32 +92,32 @@ unfoldable pub parseTypeList : ℕ → Prog TypeOut → Prog Listed
 parseTypeList bad elem = eatWs >>= λ _. byteIf (byte ")") (ret (listed 1 0 [])) (dotsList listTurns 1 dDots bad (typeItem elem) 1 [])
 
 abbrev pub ptrWords : List ℕ
-ptrWords = header (kind Ptr) 0 0 1 ∷ []
+ptrWords = header (kind Ptr) dNone 0 1 ∷ []
 
 -- Question 15: "Integer width 1 to 8,388,608"
 unfoldable pub intType : Prog (List ℕ)
-intType = parseInt 1 widthLimit >>= λ n. ret (node (kind Int) 0 0 (n ∷ []))
+intType = parseInt 1 widthLimit >>= λ n. ret (node (kind Int) dNone 0 (n ∷ []))
 
 -- a node that holds a name
 unfoldable pub nameNode : ℕ → Prog (List ℕ)
-nameNode k = nameWord >>= λ n. ret (node k 0 0 (n ∷ []))
+nameNode k = nameWord >>= λ n. ret (node k dNone 0 (n ∷ []))
 
 unfoldable pub optAddrspace : Prog (Unit {0})
 optAddrspace = wordIf (bytes "addrspace") skipParens (ret tt)
 
 -- `ptr`, and an `addrspace(..)` directly after it, white space allowed
 unfoldable pub ptrType : Prog (List ℕ)
-ptrType = eatWs >>= λ _. (optAddrspace >>= λ _. ret (node (kind Ptr) 0 0 []))
+ptrType = eatWs >>= λ _. (optAddrspace >>= λ _. ret (node (kind Ptr) dNone 0 []))
 
 -- the types that hold no other, or g
 unfoldable pub leafTypes : Prog (List ℕ) → Prog (List ℕ)
 leafTypes g =
-    wordIf (bytes "void") (ret (node (kind Void) 0 0 []))
-    (wordIf (bytes "float") (ret (node (kind Float) 0 0 []))
-    (wordIf (bytes "double") (ret (node (kind Double) 0 0 []))
+    wordIf (bytes "void") (ret (node (kind Void) dNone 0 []))
+    (wordIf (bytes "float") (ret (node (kind Float) dNone 0 []))
+    (wordIf (bytes "double") (ret (node (kind Double) dNone 0 []))
     (wordIf (bytes "ptr") ptrType
-    (wordIf (bytes "label") (ret (node (kind Label) 0 0 []))
-    (wordIf (bytes "metadata") (ret (node (kind Metadata) 0 0 []))
+    (wordIf (bytes "label") (ret (node (kind Label) dNone 0 []))
+    (wordIf (bytes "metadata") (ret (node (kind Metadata) dNone 0 []))
     (byteIf (byte "i") intType
     (byteIf (byte "%") (nameNode (kind Named))
     g)))))))
@@ -133,7 +133,7 @@ arrayType packed end elem = do
   ret (node (kind Array) packed 1 (n ∷ t))
 
 unfoldable pub structType : Prog TypeOut → Prog (List ℕ)
-structType elem = structFields elem >>= λ l. ret (node (kind Struct) 0 (countOf l) (wordsOf l))
+structType elem = structFields elem >>= λ l. ret (node (kind Struct) dNone (countOf l) (wordsOf l))
 
 -- `<{..}>` or `<N x T>`, behind the `<`
 unfoldable pub packedType : Prog TypeOut → Prog (List ℕ)

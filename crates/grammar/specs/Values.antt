@@ -11,7 +11,7 @@ use Rattle.records.specs.Words.{node}
 use Rattle.records.specs.Kinds.{kind, Local, Global, IntConst, FloatConst, Null, Undef, Poison, ZeroInit, CStr, ArrayConst, StructConst, GepExpr, ConvExpr, BinExpr}
 use Rattle.records.specs.Limits.{turns, listTurns}
 use Rattle.records.specs.Questions.{qToken, qValue, qDepth, qChildren}
-use Rattle.records.specs.Details.{dInbounds}
+use Rattle.records.specs.Details.{dNone, dInbounds}
 use Rattle.grammar.specs.Lexer.{refuse, place, eatWs, byteIf, startsWith, eatN, wordIf, wordAtIf, rankIf, expectToken, expectKeyword, skipKeyword, cstringAt, skipParens}
 use Rattle.grammar.specs.Numbers.{Literal, int, float, parseNumeral, parseHexFloat, parseF0x}
 use Rattle.grammar.specs.Attributes.{skipArithFlags}
@@ -30,11 +30,11 @@ unfoldable pub prefixIf : {A : Type 0} → List ℕ → Prog A → Prog A → Pr
 prefixIf kw p q = lead (λ w. elim (startsWith kw w) [ true ↦ eatN (length kw) p | false ↦ q ])
 
 unfoldable pub literalWords : Literal → List ℕ
-literalWords (int hl) = node (kind IntConst) 0 0 hl
-literalWords (float b) = node (kind FloatConst) 0 0 (b ∷ [])
+literalWords (int hl) = node (kind IntConst) dNone 0 hl
+literalWords (float b) = node (kind FloatConst) dNone 0 (b ∷ [])
 
 unfoldable pub floatNode : ℕ → Prog (List ℕ)
-floatNode b = ret (node (kind FloatConst) 0 0 (b ∷ []))
+floatNode b = ret (node (kind FloatConst) dNone 0 (b ∷ []))
 
 unfoldable pub numeral : Bool → Prog (List ℕ)
 numeral neg = parseNumeral neg >>= λ l. ret (literalWords l)
@@ -64,7 +64,7 @@ cstring = do
   i ← place
   eat (do
     j ← place
-    byteIf (byte "\"") (cstringAt j >>= λ n. ret (node (kind CStr) 0 0 (n ∷ []))) (fail qValue i))
+    byteIf (byte "\"") (cstringAt j >>= λ n. ret (node (kind CStr) dNone 0 (n ∷ []))) (fail qValue i))
 
 -- the values that hold no other, or g
 unfoldable pub leafValues : Prog (List ℕ) → Prog (List ℕ)
@@ -72,12 +72,12 @@ leafValues g =
     byteIf (byte "%") (nameNode (kind Local))
     (byteIf (byte "@") (nameNode (kind Global))
     (numericOr
-    (wordIf (bytes "true") (ret (node (kind IntConst) 0 0 (0 ∷ 1 ∷ [])))
-    (wordIf (bytes "false") (ret (node (kind IntConst) 0 0 (0 ∷ 0 ∷ [])))
-    (wordIf (bytes "null") (ret (node (kind Null) 0 0 []))
-    (wordIf (bytes "undef") (ret (node (kind Undef) 0 0 []))
-    (wordIf (bytes "poison") (ret (node (kind Poison) 0 0 []))
-    (wordIf (bytes "zeroinitializer") (ret (node (kind ZeroInit) 0 0 []))
+    (wordIf (bytes "true") (ret (node (kind IntConst) dNone 0 (0 ∷ 1 ∷ [])))
+    (wordIf (bytes "false") (ret (node (kind IntConst) dNone 0 (0 ∷ 0 ∷ [])))
+    (wordIf (bytes "null") (ret (node (kind Null) dNone 0 []))
+    (wordIf (bytes "undef") (ret (node (kind Undef) dNone 0 []))
+    (wordIf (bytes "poison") (ret (node (kind Poison) dNone 0 []))
+    (wordIf (bytes "zeroinitializer") (ret (node (kind ZeroInit) dNone 0 []))
     (wordAtIf (bytes "c") cstring
     (prefixIf (bytes "f0x") (parseF0x >>= floatNode)
     g))))))))))
@@ -101,7 +101,7 @@ unfoldable pub pairList : ℕ → Prog TypeOut → Prog (List ℕ) → Prog List
 pairList end type value = eatWs >>= λ _. byteIf end (ret (listed 0 0 [])) (commaList listTurns 2 end (pairChild type value) 0 [])
 
 unfoldable pub aggregate : ℕ → ℕ → Prog TypeOut → Prog (List ℕ) → Prog (List ℕ)
-aggregate k end type value = pairList end type value >>= λ l. ret (node k 0 (countOf l) (wordsOf l))
+aggregate k end type value = pairList end type value >>= λ l. ret (node k dNone (countOf l) (wordsOf l))
 
 -- `<{ .. }>`: "Packed struct constants lose their packing." A `<` before anything else is no value.
 unfoldable pub packedConst : ℕ → Prog TypeOut → Prog (List ℕ) → Prog (List ℕ)
@@ -110,7 +110,7 @@ packedConst i type value =
     (do
       l ← pairList (byte "}") type value
       _ ← expectToken (byte ">")
-      ret (node (kind StructConst) 0 (countOf l) (wordsOf l)))
+      ret (node (kind StructConst) dNone (countOf l) (wordsOf l)))
     (fail qValue i)
 
 -- `parse_gep_flags`: 1 where `inbounds` is among them
@@ -138,7 +138,7 @@ gepIndices (suc u) type value n acc =
 -- `parse_ce_gep`, behind the word
 unfoldable pub parseCeGep : Prog TypeOut → Prog (List ℕ) → Prog (List ℕ)
 parseCeGep type value = do
-  inbounds ← parseGepFlags turns 0
+  inbounds ← parseGepFlags turns dNone
   _ ← expectToken (byte "(")
   t ← whole qToken type
   _ ← expectToken (byte ",")

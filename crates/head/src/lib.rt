@@ -32,7 +32,7 @@ fn parse_param(classes: &[u8; 256], text: &[u8], words: &mut [u64], p: Parsed) -
         let q7 = writer::patch(words, p, q6, 1, n.v);
         return writer::close(words, p, q7, records::K_PARAM, records::D_NAMED, 1);
     }
-    writer::close(words, p, q4, records::K_PARAM, 0, 1)
+    writer::close(words, p, q4, records::K_PARAM, records::D_NONE, 1)
 }
 
 // Parameters, `...` in the last place, through the parenthesis (`parse_param_list`). The return type is a child before them.

@@ -56,7 +56,7 @@ fn unary(
     ensures { λ r. ⌜ ((dest : ℕ) → Leads (unary kind dest) 0 (0 ∷ dest ∷ []) (made same (now (text .entry)) p0) (now (text .entry)) p0 p (now (words .entry)) r (now (words .exit))) ⌝ }
 {
     let q = values::parse_typed_val(classes, text, words, p, records::DEPTH_LIMIT);
-    operands::end(classes, text, words, p0, q, kind, 0, 2)
+    operands::end(classes, text, words, p0, q, kind, records::D_NONE, 2)
 }
 
 // `add T V, V` and its like.
@@ -255,7 +255,16 @@ pub fn parse_select(
     let q3 = values::parse_typed_val(classes, text, words, q2, records::DEPTH_LIMIT);
     let q4 = lexer::expect_token(classes, text, q3, b',');
     let q5 = operands::parse_operand(classes, text, words, q4);
-    operands::end(classes, text, words, p, q5, records::K_SELECT, 0, 4)
+    operands::end(
+        classes,
+        text,
+        words,
+        p,
+        q5,
+        records::K_SELECT,
+        records::D_NONE,
+        4,
+    )
 }
 
 // `[V, L]` behind commas, each two children behind the type.
@@ -305,7 +314,7 @@ pub fn parse_phi(
     let q1 = types::parse_type(classes, text, words, q, records::DEPTH_LIMIT);
     let l = phi_items(classes, text, words, q1);
     let q2 = l.p;
-    writer::close(words, p, q2, records::K_PHI, 0, l.n)
+    writer::close(words, p, q2, records::K_PHI, records::D_NONE, l.n)
 }
 
 // `freeze T V`

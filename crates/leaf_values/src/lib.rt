@@ -139,7 +139,7 @@ pub fn parse_gep_flags(classes: &[u8; 256], text: &[u8], p: Parsed) -> Flags
     ensures { λ r. ⌜ Gives (parseGepFlags turns 0) (r .v) (now (text .entry)) p (r .p) ⌝ }
 {
     let mut q = p;
-    let mut v: u8 = 0;
+    let mut v: u8 = records::D_NONE;
     let mut left: usize = records::TURNS;
     while 0 < left {
         let f = gep_flag(classes, text, q, v);
@@ -169,7 +169,7 @@ fn bool_node(words: &mut [u64], p: Parsed, x: u64) -> Parsed
     let q = writer::push(words, p, 0);
     let q1 = writer::push(words, q, 0);
     let q2 = writer::push(words, q1, x);
-    writer::close(words, p, q2, records::K_INT_CONST, 0, 0)
+    writer::close(words, p, q2, records::K_INT_CONST, records::D_NONE, 0)
 }
 
 // The values that are a word. No two words stand at one place, so they are tried by how often they come.
@@ -224,7 +224,7 @@ fn cstring_value(classes: &[u8; 256], text: &[u8], words: &mut [u64], p: Parsed)
         let n = names::cstring(classes, text, r1, from);
         let r2 = n.p;
         let r3 = writer::push(words, r2, n.v);
-        return writer::close(words, p, r3, records::K_CSTR, 0, 0);
+        return writer::close(words, p, r3, records::K_CSTR, records::D_NONE, 0);
     }
     lexer::refuse_at(q, records::Q_VALUE, at)
 }
@@ -258,7 +258,7 @@ fn any_leaf(classes: &[u8; 256], text: &[u8], words: &mut [u64], p: Parsed) -> H
         let r = cstring_value(classes, text, words, p);
         return Hit { p: r, hit: true };
     }
-    if numerals::tests::starts(classes, text, p, b"f0x") {
+    if lexer::tests::starts(classes, text, p, b"f0x") {
         let t = lexer::pass_word(text, p, b"f0x");
         let r = literals::f0x_value(classes, text, words, t);
         return Hit { p: r, hit: true };

@@ -1,3 +1,4 @@
 pub mod Table
 pub mod Step
 pub mod Reads
+pub mod Tests

@@ -4,6 +4,7 @@
 // The table of classes is made once, by `classes`, and lent to every reader as its first parameter.
 pub mod limits; // limits.rt: the classes of bytes by name
 pub mod lists; // lists.rt: what lists share
+pub mod tests; // tests.rt: the beginning of a word, and a digit
 
 pub use lists::comma_or;
 pub use lists::count_child;

@@ -20,14 +20,14 @@ use Rattle.lexer.proofs.Laws.{val-paid, call, byte-yes, byte-no, true-false}
 use Rattle.arithmetic.specs.declared.literal.Literal.the-variants.{Int, Float, Refused as Question}
 use Rattle.arithmetic.specs.declared.literal.Literal.{Literal}
 use Rattle.arithmetic.proofs.Halves.{W}
-use Rattle.numerals.specs.Tests.{digitP}
+use Rattle.lexer.specs.Tests.{digitP}
 use Rattle.numerals.specs.Scans.{ShortAt}
 use Rattle.numerals.specs.Reads.{LitAt, writtenOf, Out}
 use Rattle.literals.specs.Constants.{plusValue, minusValue, digitValue, NumericVal}
 use Rattle.numerals.specs.declared.Lit.{Lit}
 use Rattle.numerals.proofs.NumeralLaws.{literal-short}
 use Rattle.literals.proofs.Passing.{passes-numeral}
-use Rattle.numerals.proofs.TestLaws.{digit-yes, digit-no, digit-first, byte-first}
+use Rattle.lexer.proofs.TestLaws.{digit-yes, digit-no, digit-first, byte-first}
 
 -- a refusal is handed on
 refused-is : {A : Type 0} {f : Prog A} {c : ℕ} {mid : List ℕ} {E : Goal A} {text : List ℕ} {p0 p : Parsed} {w : List ℕ} → Out p → Leads f c mid E text p0 p w p w

@@ -149,7 +149,16 @@ fn parse_access(
         let q3 = skip_volatile(classes, text, q2);
         let q4 = access_operands(classes, text, words, q3, form.store);
         let q5 = skip_atomic_ordering(classes, text, q4);
-        return operands::end(classes, text, words, p, q5, form.atomic, 0, form.n);
+        return operands::end(
+            classes,
+            text,
+            words,
+            p,
+            q5,
+            form.atomic,
+            records::D_NONE,
+            form.n,
+        );
     }
     let p1 = skip_volatile(classes, text, q1);
     let q6 = writer::push(words, p1, 0);
@@ -159,7 +168,7 @@ fn parse_access(
     if t.has == 0 {
         let z = access_operands(classes, text, words, p1, form.store);
         let q9 = operands::resume(z, q8);
-        return writer::close(words, p, q9, form.kind, 0, form.n);
+        return writer::close(words, p, q9, form.kind, records::D_NONE, form.n);
     }
     let q10 = writer::patch(words, p, q8, 2, t.v);
     writer::close(words, p, q10, form.kind, records::D_ALIGN, form.n)
@@ -225,7 +234,16 @@ pub fn parse_cmpxchg(
     q = operands::parse_operand(classes, text, words, q);
     q = skip_atomic_ordering(classes, text, q);
     q = skip_atomic_ordering(classes, text, q);
-    operands::end(classes, text, words, p, q, records::K_CMPXCHG, 0, 4)
+    operands::end(
+        classes,
+        text,
+        words,
+        p,
+        q,
+        records::K_CMPXCHG,
+        records::D_NONE,
+        4,
+    )
 }
 
 // `extractvalue T V, N`: the number's slot is filled behind the operand.
@@ -247,7 +265,16 @@ pub fn parse_extractvalue(
     let n = numbers::parse_int(classes, text, q, 0, records::INDEX_LIMIT);
     q = n.p;
     q = writer::patch(words, p, q, 2, n.v);
-    operands::end(classes, text, words, p, q, records::K_EXTRACT_VALUE, 0, 1)
+    operands::end(
+        classes,
+        text,
+        words,
+        p,
+        q,
+        records::K_EXTRACT_VALUE,
+        records::D_NONE,
+        1,
+    )
 }
 
 // `fence ..`
@@ -257,7 +284,16 @@ pub fn parse_fence(classes: &[u8; 256], text: &[u8], words: &mut [u64], p: Parse
 {
     let mut q = writer::begin(words, p, 0);
     q = skip_atomic_ordering(classes, text, q);
-    operands::end(classes, text, words, p, q, records::K_FENCE, 0, 0)
+    operands::end(
+        classes,
+        text,
+        words,
+        p,
+        q,
+        records::K_FENCE,
+        records::D_NONE,
+        0,
+    )
 }
 
 // What stands behind an alloca's type: `n` is 0 where there is no count, `has` is 0 where there is no alignment.

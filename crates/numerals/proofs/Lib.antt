@@ -1,4 +1,3 @@
-pub mod TestLaws
 pub mod ScanLaws
 pub mod NumeralLaws
 pub mod HexLaws

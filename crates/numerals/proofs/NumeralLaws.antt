@@ -31,7 +31,7 @@ use Rattle.numerals.specs.Scans.{DigitsAt, ShortAt}
 use Rattle.numerals.specs.Reads.{PowerAt, TailAt, NumeralAt, LitAt, writtenOf, Out}
 use Rattle.numerals.specs.declared.Part.the-variants.{Whole, Behind, Power}
 use Rattle.numerals.proofs.ScanLaws.{digits-run}
-use Rattle.numerals.proofs.TestLaws.{name-other}
+use Rattle.lexer.proofs.TestLaws.{name-other}
 
 -- ---- the exponent
 pub power-here : {s0 t s : Fold} {text : List ℕ} {p q p′ : Parsed} {d : Bool} → Gives readSign d text p q → t ≡ exponentPassed s0 d → DigitsAt Power t text q p′ s → PowerAt s0 text p p′ s

@@ -1,7 +1,6 @@
 // Numerals in a text (`read_numeric`, `parse_hex_float`): digits are folded as they are scanned. 01: "Types and values", questions 7 and 17.
 pub mod reads; // reads.rt: numerals and the bits of floats
 pub mod scans; // scans.rt: digits, folded
-pub mod tests; // tests.rt: what stands at the cursor
 
 use arithmetic::hex::Hex;
 use arithmetic::literal::Literal;

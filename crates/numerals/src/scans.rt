@@ -5,6 +5,7 @@ use crate::Part;
 use crate::Short;
 use arithmetic::hex::no_hex;
 use arithmetic::hex::push_hex;
+use arithmetic::integer::TENFOLD_LIMIT;
 use arithmetic::numeral::Fold;
 use arithmetic::numeral::part_digit;
 use arithmetic::numeral::power_digit;
@@ -99,7 +100,7 @@ pub fn short_digits(classes: &[u8; 256], text: &[u8], at: usize) -> Short
                 is: at < i,
             };
         }
-        if 1152921504606846975 < v {
+        if TENFOLD_LIMIT <= v {
             return Short {
                 at: i,
                 v,

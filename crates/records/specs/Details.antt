@@ -10,6 +10,10 @@ noLinkage = 10
 abbrev pub dVarargs : ℕ
 dVarargs = 128
 
+-- nothing that may be there is there
+abbrev pub dNone : ℕ
+dNone = 0
+
 -- a packed struct; a vector, which is a packed array
 abbrev pub dPacked : ℕ
 dPacked = 1

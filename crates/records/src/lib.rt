@@ -119,6 +119,8 @@ pub const NO_LINKAGE: u8 = 10; // "the `Linkage` rank (10 when unwritten)"
 
 pub const D_VARARGS: u8 = 128; // "plus 128 for varargs"
 
+pub const D_NONE: u8 = 0; // nothing that may be there is there
+
 pub const D_PACKED: u8 = 1; // a packed struct; a vector, which is a packed array
 
 pub const D_DOTS: u8 = 1; // a function type that ends in `...`

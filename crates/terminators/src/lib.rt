@@ -19,7 +19,16 @@ pub fn parse_ret(classes: &[u8; 256], text: &[u8], words: &mut [u64], p: Parsed)
     let q1 = lexer::eat_ws(classes, text, q);
     if lexer::word(classes, text, q1, b"void") {
         let q2 = lexer::pass_word(text, q1, b"void");
-        return operands::end(classes, text, words, p, q2, records::K_RET, 0, 0);
+        return operands::end(
+            classes,
+            text,
+            words,
+            p,
+            q2,
+            records::K_RET,
+            records::D_NONE,
+            0,
+        );
     }
     let q3 = values::parse_typed_val(classes, text, words, q1, records::DEPTH_LIMIT);
     operands::end(classes, text, words, p, q3, records::K_RET, D_VALUE, 2)
@@ -37,7 +46,16 @@ pub fn parse_br(classes: &[u8; 256], text: &[u8], words: &mut [u64], p: Parsed) 
         let l = names::parse_local_name(classes, text, q2);
         let q3 = l.p;
         let q4 = operands::label_node(words, q3, l.v);
-        return operands::end(classes, text, words, p, q4, records::K_BR, 0, 1);
+        return operands::end(
+            classes,
+            text,
+            words,
+            p,
+            q4,
+            records::K_BR,
+            records::D_NONE,
+            1,
+        );
     }
     let q5 = operands::parse_operand(classes, text, words, q1);
     let a = operands::target(classes, text, q5);
@@ -55,5 +73,14 @@ pub fn parse_unreachable(classes: &[u8; 256], text: &[u8], words: &mut [u64], p:
     ensures { λ r. ⌜ Leads parseUnreachable 1 [] (made same (now (text .entry)) p) (now (text .entry)) p p (now (words .entry)) r (now (words .exit)) ⌝ }
 {
     let q = writer::push(words, p, 0);
-    operands::end(classes, text, words, p, q, records::K_UNREACHABLE, 0, 0)
+    operands::end(
+        classes,
+        text,
+        words,
+        p,
+        q,
+        records::K_UNREACHABLE,
+        records::D_NONE,
+        0,
+    )
 }

@@ -155,5 +155,5 @@ pub fn parse_switch(classes: &[u8; 256], text: &[u8], words: &mut [u64], p: Pars
     let l = switch_labels(classes, text, words, z2);
     let z3 = l.p;
     let q7 = operands::resume(z3, q6);
-    writer::close(words, p, q7, records::K_SWITCH, 0, c.n)
+    writer::close(words, p, q7, records::K_SWITCH, records::D_NONE, c.n)
 }

@@ -161,7 +161,7 @@ fn struct_type(
     let q = writer::push(words, p, 0);
     let l = parse_struct_fields(classes, text, words, q, depth);
     let q1 = l.p;
-    writer::close(words, p, q1, records::K_STRUCT, 0, l.n)
+    writer::close(words, p, q1, records::K_STRUCT, records::D_NONE, l.n)
 }
 
 // `<{..}>` and `<N x T>`, behind the `<`.

@@ -63,7 +63,7 @@ fn aggregate(
     let q = writer::push(words, p, 0);
     let l = pair_list(classes, text, words, q, end, depth);
     let q1 = l.p;
-    writer::close(words, p, q1, kind, 0, l.n)
+    writer::close(words, p, q1, kind, records::D_NONE, l.n)
 }
 
 // `<{..}>`, behind the `<` that stands at `at`.
@@ -84,7 +84,7 @@ fn packed_const(
         let l = pair_list(classes, text, words, q1, b'}', depth);
         let q2 = l.p;
         let q3 = lexer::expect_token(classes, text, q2, b'>');
-        return writer::close(words, p, q3, records::K_STRUCT_CONST, 0, l.n);
+        return writer::close(words, p, q3, records::K_STRUCT_CONST, records::D_NONE, l.n);
     }
     lexer::refuse_at(p, records::Q_VALUE, at)
 }

@@ -3,7 +3,7 @@ use mathlib.Core.Path.{sym, _∙_}
 use native.Mathlib.Omega.{arith}
 use Rattle.lexer.proofs.Laws.{true-false, byte-yes, byte-no, call}
 use Rattle.grammar.specs.Values.{leafValues}
-use Rattle.numerals.proofs.TestLaws.{prefix-yes, prefix-no}
+use Rattle.lexer.proofs.TestLaws.{prefix-yes, prefix-no}
 use Rattle.leaf_values.specs.Leaf.{keyValues}
 use Rattle.leaf_values.proofs.LeafLaws.{word-at-yes, word-at-no}
 use borrow.Author.Needs.{needs}

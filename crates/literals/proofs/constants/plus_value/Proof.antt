@@ -2,7 +2,7 @@
 use native.Mathlib.Omega.{arith}
 use borrow.Author.Needs.{needs}
 use Rattle.lexer.proofs.Laws.{call}
-use Rattle.numerals.proofs.TestLaws.{prefix-yes, prefix-no}
+use Rattle.lexer.proofs.TestLaws.{prefix-yes, prefix-no}
 use Rattle.literals.proofs.constants.plus_value.Statement.{statement}
 use Rattle.literals.proofs.constants.plus_value.Tie as tie
 

@@ -1,2 +1,0 @@
-pub mod OpcodeLaws
-pub mod StatementLaws
