@@ -6,15 +6,13 @@ use mathlib.Core.List.{List, [], _∷_, _++_, append-nil}
 use Prim.Native.Nat.{ℕ, _+_, _-_, _≤_, _<_}
 use native.Mathlib.Omega.{arith}
 use native.Mathlib.Numerals.{add-one}
-use lib.Dec.{ltb}
 use lib.ListN.{length, drop}
-use borrow.Author.Tests.{eqb-true, lt-ltb, le-ltb}
+use borrow.Author.Tests.{eqb-true}
 use Rattle.program.specs.Class.{classOf, isWord}
-use Rattle.program.specs.Prog.{Prog, ret, fail, last, Res, ok, closed, no-at, run, _>>=_, byteAt}
-use Rattle.records.specs.Words.{node}
-use Rattle.records.specs.Kinds.{kind, Block}
+use Rattle.program.specs.Prog.{Prog, last, Res, ok, closed, no-at, run, _>>=_, byteAt}
+use Rattle.records.specs.Kinds.{kind}
 use Rattle.records.specs.Piece.{blockOf, blockRead}
-use Rattle.grammar.specs.Lexer.{eatWs, refuse, isByte}
+use Rattle.grammar.specs.Lexer.{eatWs, isByte}
 use Rattle.grammar.specs.Body.{Statement, label, instruction, terminator, parseStatement, overAt, finishBlock, parseBody, parseBlock}
 use Rattle.grammar.specs.Function.{blockAt}
 use Rattle.lexer.specs.Step.{looksP, passed, refused, placeP}

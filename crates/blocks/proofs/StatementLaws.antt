@@ -1,13 +1,11 @@
 -- The laws of opcodes and of statements: a keyword that a word spells has its rank, and what a statement gives is told by its kind.
 -- Assumes nothing.
 use mathlib.Core.Path.{_≡_, refl, sym, ap, _∙_, subst}
-use mathlib.Core.Bool.{Bool, true, false, _&&_}
+use mathlib.Core.Bool.{Bool, true, false}
 use mathlib.Core.List.{List, [], _∷_, _++_}
 use Prim.Native.Nat.{ℕ, zero, suc, _+_, _-_, _≤_, _<_}
 use native.Mathlib.Omega.{arith}
-use lib.Dec.{eqb}
 use lib.ListN.{length, take, drop, length-drop}
-use borrow.Author.Tests.{eqb-true}
 use Rattle.program.specs.Prog.{Prog, ret, Res, ok, run, _>>=_}
 use Rattle.records.specs.Words.{pack}
 use Rattle.grammar.specs.Lexer.{refuse, sameWord, rank, byteIf, Word, plain, quoted, sizeOf, isEmpty, isEmptyWord, spelled, readWord}

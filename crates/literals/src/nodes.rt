@@ -1,9 +1,9 @@
 // A literal as its node: an integer's two words, a float's bits.
 use arithmetic::literal::Literal;
+use hex_floats::parse_f0x;
+use hex_floats::parse_hex_float;
 use lexer::Cursor;
 use lexer::Parsed;
-use numerals::reads::parse_f0x;
-use numerals::reads::parse_hex_float;
 use numerals::reads::parse_numeral;
 use numerals::scans::short_digits;
 use writer::push;

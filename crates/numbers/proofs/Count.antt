@@ -21,7 +21,7 @@ use Rattle.arithmetic.specs.Number.{capped, shifted}
 use Rattle.arithmetic.proofs.Shifts.{small, shifted-more}
 use Rattle.numbers.specs.Number.{added, NumAt}
 use Rattle.arithmetic.specs.declared.number.Val.{Val}
-use Rattle.arithmetic.specs.declared.number.Val.the-variants.{Exact, Over}
+use Rattle.arithmetic.specs.declared.number.Val.the-variants.{Exact}
 use Rattle.program.specs.Lists.{drop-next}
 use Rattle.lexer.proofs.Scan.{scan-more, scan-stop, scan-out, stops, goes}
 use Rattle.lexer.proofs.Laws.{scan-run}

@@ -1,3 +1,2 @@
 pub mod ScanLaws
 pub mod NumeralLaws
-pub mod HexLaws

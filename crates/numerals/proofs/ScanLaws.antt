@@ -1,7 +1,7 @@
--- A scan and its fold, byte by byte: both go one byte on together, so where the scan stops the fold is that of all bytes passed.
+-- The scan of digits and its fold go one byte on together, so where the scan stops the fold is that of all digits passed.
 -- Assumes nothing.
 use mathlib.Core.Path.{_≡_, refl, sym, ap, _∙_}
-use mathlib.Core.List.{List, [], _∷_}
+use mathlib.Core.List.{List, []}
 use mathlib.Core.Bool.{Bool, true, false}
 use mathlib.Core.Option.{Option, none, some}
 use Prim.Native.Nat.{ℕ, _+_, _*_, _≤_, _<_}
@@ -11,61 +11,21 @@ use lib.ListN.{length, getD, drop, drop-of-length-le, length-drop}
 use lib.Seq.{length-take-le}
 use borrow.Author.Tests.{eq-eqb, ne-eqb, lt-ltb, le-ltb, lt-leb}
 use Rattle.program.specs.Choice.{pick}
-use Rattle.program.specs.Class.{classOf, isDigit, isHex, isName}
+use Rattle.program.specs.Class.{classOf, isDigit, isName}
 use Rattle.program.specs.Prog.{ret, run, ok, scanLen, byteAt}
 use Rattle.program.specs.Local.{scanLen-le}
-use Rattle.grammar.specs.Numbers.{digitStep, valueOf, hexStep, digits}
+use Rattle.grammar.specs.Numbers.{digitStep, valueOf, digits}
 use Rattle.lexer.specs.Step.{taken}
 use Rattle.lexer.specs.declared.Cursor.{Cursor}
 use Rattle.lexer.specs.declared.Parsed.the-variants.{Ok, Refused}
 use Rattle.program.specs.Lists.{drop-next}
-use Rattle.lexer.proofs.Scan.{scan-some}
+use Rattle.lexer.proofs.Folding.{FoldsTo, Folding, folding-start, folding-out, folding-stop, folding-more}
 use Rattle.lexer.proofs.Laws.{given, kept, scan-run, true-false}
 use Rattle.arithmetic.specs.Folds.{folded, allDigits, begins}
-use Rattle.arithmetic.specs.Hex.{hexFolded, hexPushed}
-use Rattle.arithmetic.specs.declared.hex.Hex.{Hex}
 use Rattle.arithmetic.specs.declared.numeral.Fold.{Fold}
 use Rattle.arithmetic.proofs.Scans.{digits-all, digits-begin}
 use Rattle.numerals.specs.Scans.{pushedIn, DigitsAt, ShortAt}
 use Rattle.numerals.specs.declared.Part.{Part}
-
--- what an automaton passes from `at` on ends at i, and g folds it from s0 to s
-pub record FoldsTo {S : Type 0} (f : ℕ → ℕ → Option ℕ) (g : S → List ℕ → S) (text : List ℕ) (at : ℕ) (s0 : S) (i : ℕ) (s : S) : Type 0 where
-  pub place : i ≡ at + scanLen f 0 (drop at text)
-  pub state : s ≡ g s0 (taken f 0 (drop at text))
-
--- the scan from `at` goes on from i in state q, and its fold from s
-pub record Folding {S : Type 0} (f : ℕ → ℕ → Option ℕ) (g : S → List ℕ → S) (text : List ℕ) (at : ℕ) (s0 : S) (i q : ℕ) (s : S) : Type 0 where
-  pub place : at + scanLen f 0 (drop at text) ≡ i + scanLen f q (drop i text)
-  pub state : g s0 (taken f 0 (drop at text)) ≡ g s (taken f q (drop i text))
-
-module _ {S : Type 0} (f : ℕ → ℕ → Option ℕ) (g : S → List ℕ → S) (text : List ℕ) (at : ℕ) (s0 : S) where
-  pub folding-start : Folding f g text at s0 at 0 s0
-  folding-start = record { place = refl; state = refl }
-
-  module _ (i q : ℕ) (s : S) (a : Folding f g text at s0 i q s) where
-    taken-none : scanLen f q (drop i text) ≡ 0 → taken f q (drop i text) ≡ []
-    taken-none e = rw e
-
-    ended : g s [] ≡ s → scanLen f q (drop i text) ≡ 0 → FoldsTo f g text at s0 i s
-    ended n e = record { place = omega (arith, a .place); state = sym (a .state ∙ ap (g s) (taken-none e) ∙ n) }
-
-    -- the text ends, or the automaton stops
-    pub folding-out : g s [] ≡ s → length text ≤ i → FoldsTo f g text at s0 i s
-    unfolding scanLen
-    folding-out n h = ended n (rw (drop-of-length-le text h))
-
-    pub folding-stop : g s [] ≡ s → i < length text → f q (getD text i 0) ≡ none → FoldsTo f g text at s0 i s
-    unfolding scanLen
-    folding-stop n h e = ended n (rw (drop-next text i h, scanLen, e))
-
-    -- a byte more
-    pub folding-more : (r : ℕ) (t : S) → ((l : List ℕ) → g s (getD text i 0 ∷ l) ≡ g t l) → i < length text → f q (getD text i 0) ≡ some r → Folding f g text at s0 (i + 1) r t
-    unfolding scanLen
-    folding-more r t n h e = record {
-      place = a .place ∙ scan-some f text i q r h e;
-      state = a .state ∙ ap (g s) (rw (drop-next text i h, scanLen, e)) ∙ n (taken f r (drop (i + 1) text));
-    }
 
 -- ---- digits: d is the class of the byte at i
 no-score : isDigit 95 ≡ false
@@ -167,21 +127,6 @@ module _ {text : List ℕ} {at i v : ℕ} (a : Summing text at i v) where
         let o : (getD text i 0 ≡ 95 → ⊥) = λ x. score-named (rw (← x, ← e) k) in
         let f : FoldsTo digitStep valueOf text at 0 i v = folding-stop digitStep valueOf text at 0 i (a .q) v (a .going) refl h (step-stop (a .q) _ (other _ d e (omega arith)) o) in
         record { some = m; place = f .place; value = f .state; ends = name-none text i d h e k }
-
--- ---- hex digits
-module _ {text : List ℕ} {at : ℕ} {s0 : Hex} {i : ℕ} {s : Hex} where
-  pub hex-out : Folding hexStep hexFolded text at s0 i 0 s → length text ≤ i → FoldsTo hexStep hexFolded text at s0 i s
-  unfolding hexFolded
-  hex-out a h = folding-out hexStep hexFolded text at s0 i 0 s a refl h
-
-  module _ {d : ℕ} (a : Folding hexStep hexFolded text at s0 i 0 s) (h : i < length text) (e : d ≡ classOf (getD text i 0)) where
-    pub hex-more : {t : Hex} → d < 16 → t ≡ hexPushed s d → Folding hexStep hexFolded text at s0 (i + 1) 0 t
-    unfolding hexFolded hexStep isHex
-    hex-more {t} k n = folding-more hexStep hexFolded text at s0 i 0 s a 0 t (λ l. rw (← e, ← n)) h (rw (← e, lt-ltb _ _ k))
-
-    pub hex-stop : 16 ≤ d → FoldsTo hexStep hexFolded text at s0 i s
-    unfolding hexFolded hexStep isHex
-    hex-stop k = folding-stop hexStep hexFolded text at s0 i 0 s a refl h (rw (← e, le-ltb _ _ k))
 
 -- ---- the digits at the cursor
 pub digits-run : (text : List ℕ) (at i : ℕ) → i ≡ at + scanLen digitStep 0 (drop at text) → run digits at (drop at text) ≡ ok (taken digitStep 0 (drop at text)) i

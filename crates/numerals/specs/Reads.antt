@@ -5,8 +5,6 @@ use mathlib.Core.Bool.{Bool, true, false}
 use mathlib.Core.List.{List, [], _∷_}
 use Prim.Native.Nat.{ℕ, _≤_}
 use lib.ListN.{length}
-use Rattle.program.specs.Prog.{Prog, ret}
-use Rattle.grammar.specs.Lexer.{refuse}
 use Rattle.grammar.specs.Numbers.{Numeral, int, float, readExponent, behindPoint, readNumeric, parseNumeral, Literal as Written}
 use Rattle.lexer.specs.Reads.{Gives}
 use Rattle.lexer.specs.declared.Parsed.{Parsed}
@@ -59,9 +57,3 @@ Out (Refused e q) = Unit {0}
 pub record LitAt (neg : Bool) (text : List ℕ) (p : Parsed) (r : Lit) : Type 0 where
   pub gives : Gives (parseNumeral neg) (writtenOf (r .lit)) text p (r .p)
   pub out : (e : ℕ) → r .lit ≡ Question e → Out (r .p)
-
--- a float's literal as its bits
-unfoldable pub bitsIn : Literal → Prog ℕ
-bitsIn (Int h l) = refuse 7
-bitsIn (Float b) = ret b
-bitsIn (Question e) = refuse e

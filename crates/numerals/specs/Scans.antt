@@ -6,15 +6,13 @@ use mathlib.Core.List.{List}
 use Prim.Native.Nat.{ℕ, _+_, _≤_, _<_}
 use lib.ListN.{length, drop}
 use Rattle.program.specs.Class.{isName}
-use Rattle.program.specs.Prog.{ret, scan, scanLen, byteAt}
-use Rattle.grammar.specs.Numbers.{digitStep, valueOf, digits, hexStep}
+use Rattle.program.specs.Prog.{scanLen, byteAt}
+use Rattle.grammar.specs.Numbers.{digitStep, valueOf, digits}
 use Rattle.lexer.specs.Step.{taken}
 use Rattle.lexer.specs.Reads.{Gives}
 use Rattle.lexer.specs.declared.Parsed.{Parsed}
 use Rattle.arithmetic.specs.Folds.{folded, allDigits, begins}
-use Rattle.arithmetic.specs.Hex.{hexHeld, hexFolded, allHex}
 use Rattle.arithmetic.specs.Numerals.{wholePushed, partPushed, powerPushed}
-use Rattle.arithmetic.specs.declared.hex.Hex.{Hex}
 use Rattle.arithmetic.specs.declared.numeral.Fold.{Fold}
 use Rattle.numerals.specs.declared.Part.{Part}
 use Rattle.numerals.specs.declared.Part.the-variants.{Whole, Behind, Power}
@@ -41,10 +39,3 @@ pub record ShortAt (text : List ℕ) (at i v : ℕ) : Type 0 where
   pub place : i ≡ at + scanLen digitStep 0 (drop at text)
   pub value : v ≡ valueOf 0 (taken digitStep 0 (drop at text))
   pub ends : isName (byteAt (drop i text)) ≡ false
-
--- The hex digits at p.
-pub record HexAt (text : List ℕ) (p p′ : Parsed) (h : Hex) : Type 0 where
-  pub run : List ℕ
-  pub gives : Gives (scan hexStep 0 ret) run text p p′
-  pub state : h ≡ hexFolded (hexHeld 0 0) run
-  pub all : allHex run ≡ true

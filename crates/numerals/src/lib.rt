@@ -1,8 +1,7 @@
-// Numerals in a text (`read_numeric`, `parse_hex_float`): digits are folded as they are scanned. 01: "Types and values", questions 7 and 17.
-pub mod reads; // reads.rt: numerals and the bits of floats
+// Numerals in a text (`read_numeric`): digits are folded as they are scanned. 01: "Types and values", questions 7 and 17.
+pub mod reads; // reads.rt: numerals
 pub mod scans; // scans.rt: digits, folded
 
-use arithmetic::hex::Hex;
 use arithmetic::literal::Literal;
 use arithmetic::numeral::Fold;
 use lexer::Parsed;
@@ -31,12 +30,6 @@ pub struct Short {
     pub at: usize,
     pub v: u64,
     pub is: bool,
-}
-
-// Where the reader is behind hex digits, and what they fold to.
-pub struct HexFolded {
-    pub p: Parsed,
-    pub h: Hex,
 }
 
 // Where the reader is, and whether it passed a minus.

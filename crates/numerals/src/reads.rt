@@ -1,29 +1,23 @@
-// Numerals behind their sign (`read_numeric`), and the bits of floats (`parse_hex_float`).
+// Numerals behind their sign (`read_numeric`).
 use crate::Folded;
 use crate::Lit;
 use crate::Part;
 use crate::Sign;
 use crate::scans::digits;
-use crate::scans::hex_digits;
 use arithmetic::literal::Literal;
-use arithmetic::literal::f0x_literal;
-use arithmetic::literal::hex_literal;
 use arithmetic::numeral::Fold;
 use arithmetic::numeral::literal_of;
 use arithmetic::numeral::pass_exponent;
 use arithmetic::numeral::pass_point;
 use arithmetic::numeral::start;
-use lexer::Num;
 use lexer::Parsed;
 use lexer::looks;
 use lexer::pass;
 use lexer::refuse;
-ghost use mathlib.Core.List.{List};
-ghost use Prim.Native.Nat.{ℕ};
-ghost use Rattle.grammar.specs.Numbers.{readSign, parseHexFloat, parseF0x};
+ghost use Rattle.grammar.specs.Numbers.{readSign};
 ghost use Rattle.lexer.specs.Table.{Classes};
 ghost use Rattle.lexer.specs.Reads.{Gives};
-ghost use Rattle.numerals.specs.Reads.{PowerAt, TailAt, NumeralAt, LitAt, bitsIn};
+ghost use Rattle.numerals.specs.Reads.{PowerAt, TailAt, NumeralAt, LitAt};
 
 // `+`, `-` or nothing: is it a minus?
 fn read_sign(text: &[u8], p: Parsed) -> Sign
@@ -104,45 +98,4 @@ pub fn parse_numeral(classes: &[u8; 256], text: &[u8], p: Parsed, neg: bool) -> 
             Lit { p: q2, lit }
         }
     }
-}
-
-// The bits of a float, or the question that refuses it.
-fn bits_of(lit: Literal, p: Parsed) -> Num
-    ensures { λ r. ⌜ ((text : List ℕ) → Gives (bitsIn lit) (r .v) text p (r .p)) ⌝ }
-{
-    match lit {
-        Literal::Int(h, l) => {
-            let q = refuse(p, records::Q_LITERAL);
-            Num { p: q, v: 0 }
-        }
-        Literal::Float(b) => Num { p, v: b },
-        Literal::Refused(e) => {
-            let q2 = refuse(p, e);
-            Num { p: q2, v: 0 }
-        }
-    }
-}
-
-// The bits of a float, behind `0x`.
-pub fn parse_hex_float(classes: &[u8; 256], text: &[u8], p: Parsed) -> Num
-    requires { ⌜ Classes (now classes) ⌝ }
-    ensures { λ r. ⌜ Gives parseHexFloat (r .v) (now (text .entry)) p (r .p) ⌝ }
-{
-    let x = hex_digits(classes, text, p);
-    let q = x.p;
-    let h = x.h;
-    let lit = hex_literal(h);
-    bits_of(lit, q)
-}
-
-// The bits of a float or a widened one, behind `f0x`.
-pub fn parse_f0x(classes: &[u8; 256], text: &[u8], p: Parsed) -> Num
-    requires { ⌜ Classes (now classes) ⌝ }
-    ensures { λ r. ⌜ Gives parseF0x (r .v) (now (text .entry)) p (r .p) ⌝ }
-{
-    let x = hex_digits(classes, text, p);
-    let q = x.p;
-    let h = x.h;
-    let lit = f0x_literal(h);
-    bits_of(lit, q)
 }

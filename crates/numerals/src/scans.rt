@@ -1,10 +1,7 @@
 // Digits, folded as they are scanned. 01: "A number begins with a digit; later underscores are passed over."
 use crate::Folded;
-use crate::HexFolded;
 use crate::Part;
 use crate::Short;
-use arithmetic::hex::no_hex;
-use arithmetic::hex::push_hex;
 use arithmetic::integer::TENFOLD_LIMIT;
 use arithmetic::numeral::Fold;
 use arithmetic::numeral::part_digit;
@@ -14,12 +11,11 @@ use lexer::Cursor;
 use lexer::Parsed;
 use lexer::class;
 use lexer::limits::DIGIT;
-use lexer::limits::HEX;
 use lexer::limits::SPACE;
 ghost use mathlib.Core.Path.{_≡_};
 ghost use mathlib.Core.Bool.{true};
 ghost use Rattle.lexer.specs.Table.{Classes};
-ghost use Rattle.numerals.specs.Scans.{pushedIn, DigitsAt, ShortAt, HexAt};
+ghost use Rattle.numerals.specs.Scans.{pushedIn, DigitsAt, ShortAt};
 
 // A digit more.
 fn push_digit(part: Part, s: Fold, d: u8) -> Fold
@@ -114,37 +110,5 @@ pub fn short_digits(classes: &[u8; 256], text: &[u8], at: usize) -> Short
         at: i,
         v,
         is: at < i,
-    }
-}
-
-// The hex digits at the cursor.
-pub fn hex_digits(classes: &[u8; 256], text: &[u8], p: Parsed) -> HexFolded
-    requires { ⌜ Classes (now classes) ⌝ }
-    ensures { λ r. ⌜ HexAt (now (text .entry)) p (r .p) (r .h) ⌝ }
-{
-    let mut h = no_hex();
-    match p {
-        Parsed::Ok(c) => {
-            let mut i = c.at;
-            while i < text.len() {
-                let d = class(classes, text[i]);
-                if HEX <= d {
-                    return HexFolded {
-                        p: Parsed::Ok(Cursor { at: i, w: c.w }),
-                        h,
-                    };
-                }
-                h = push_hex(h, d);
-                i += 1;
-            }
-            HexFolded {
-                p: Parsed::Ok(Cursor { at: i, w: c.w }),
-                h,
-            }
-        }
-        Parsed::Refused(e, q) => HexFolded {
-            p: Parsed::Refused(e, q),
-            h,
-        },
     }
 }

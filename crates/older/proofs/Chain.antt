@@ -1,7 +1,7 @@
 -- Question 22, entry by entry.
 -- `chain` makes four tests of each entry, and the loop makes the same four.
 -- Assumes nothing.
-use mathlib.Core.Path.{_≡_, refl, sym, ap, _∙_}
+use mathlib.Core.Path.{_≡_, refl, sym, _∙_}
 use mathlib.Core.Bool.{Bool, true, false, _&&_}
 use mathlib.Core.Option.{Option, none, some}
 use mathlib.Core.List.{List, [], _∷_}
@@ -10,7 +10,6 @@ use native.Mathlib.Omega.{arith}
 use native.Mathlib.Nat.{sub-zero}
 use lib.Dec.{leb, eqb}
 use lib.ListN.{length, drop, getD}
-use lib.Seq.{drop-cons}
 use borrow.Author.Tests.{eq-eqb, ne-eqb, le-leb, lt-leb}
 use Rattle.records.specs.Words.{hi, lo}
 use Rattle.records.specs.Pieces.{Old, old, chain, consOld, olds}

@@ -2,7 +2,7 @@
 -- By induction on the pieces: the tail's closing byte is no letter, digit or `_`, so every piece before it is settled inside the text up to there,
 -- and the tail looks no further than that byte.
 -- Assumes nothing.
-use mathlib.Core.Path.{_≡_, refl, sym, ap, _∙_}
+use mathlib.Core.Path.{_≡_, refl, ap, _∙_}
 use mathlib.Core.Bool.{Bool, true, false}
 use mathlib.Core.List.{List, _++_}
 use Prim.Native.Nat.{ℕ, zero, suc, _+_, _≤_, _<_}
@@ -10,8 +10,8 @@ use native.Mathlib.Nat.{zero-add}
 use native.Mathlib.Omega.{arith}
 use lib.ListN.{length, drop, length-append, length-drop}
 use lib.Seq.{drop-append-le}
-use Rattle.program.specs.Prog.{Prog, Res, ok, closed, no-at, run, ends}
-use Rattle.program.specs.Local.{mono, local, closed-local, closed-ends, ends-drop}
+use Rattle.program.specs.Prog.{Prog, ok, run, ends}
+use Rattle.program.specs.Local.{local, closed-local, closed-ends, ends-drop}
 use Rattle.records.specs.Pieces.{HeadRead, head, badHead, BlockRead, block, tail, badBlock, Run, done, stop, item, blocksIn, blocks, reading, textAsked, fine, fullVerdict, full}
 use Rattle.records.specs.Piece.{headOf, blockOf, headRead, blockRead}
 use Rattle.grammar.specs.Body.{parseHead, parseBlock}

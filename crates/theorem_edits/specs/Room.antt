@@ -3,16 +3,15 @@
 -- Assumes nothing.
 use mathlib.Core.Path.{_≡_, refl, sym, ap, _∙_}
 use mathlib.Core.Bool.{Bool, true, false, _&&_}
-use mathlib.Core.List.{List, [], _∷_, _++_, append-assoc}
-use Prim.Native.Nat.{ℕ, zero, suc, _+_, _-_, _*_, _≤_, _<_}
+use mathlib.Core.List.{List, [], _++_, append-assoc}
+use Prim.Native.Nat.{ℕ, suc, _+_, _-_, _*_, _≤_, _<_}
 use native.Mathlib.Omega.{arith}
 use lib.Dec.{ltb, leb}
 use lib.ListN.{length, replicate, length-append, replicate-append-replicate}
 use borrow.Author.Tests.{leb-true, ltb-true, le-leb, lt-ltb}
 use Rattle.program.specs.Local.{and-left}
 use Rattle.records.specs.Limits.{halfLimit}
-use Rattle.records.specs.Words.{pack}
-use Rattle.records.specs.Pieces.{HeadRead, BlockRead, Run, done, stop, item, mapRun, Verdict, fine, refused, judge, pad, allWords, entries, countRun, count, Left, left, refusedAt, leave, andThen, textAsked, reading, fullVerdict, full}
+use Rattle.records.specs.Pieces.{HeadRead, BlockRead, Run, done, stop, item, mapRun, Verdict, fine, refused, judge, pad, allWords, entries, countRun, count, left, refusedAt, leave, andThen, textAsked, reading, fullVerdict, full}
 use Rattle.grammar.specs.Function.{headAt, blockAt, readingOf}
 
 and-right : (a b : Bool) → (a && b) ≡ true → b ≡ true

@@ -10,23 +10,21 @@ use native.Mathlib.Nat.{add-zero}
 use lib.ListN.{length, drop, length-drop}
 use lib.Dec.{ltb, eqb}
 use borrow.Author.Tests.{ne-eqb, eqb-true}
-use Rattle.program.specs.Bytes.{bytes}
 use Rattle.program.specs.Choice.{pick}
 use Rattle.program.specs.Class.{classOf, isSpace, isWord}
 use Rattle.program.specs.Prog.{Prog, ret, eat, Res, ok, closed, no-at, run, _>>=_, byteAt, leadWord, scanLen}
 use Rattle.program.specs.Local.{next, run-bind}
-use Rattle.records.specs.Words.{header, node}
-use Rattle.grammar.specs.Lexer.{spaceStep, eatWs, refuse, place, isByte, byteIf, byteAtIf, eatN, wordIf, rankIf, rank, sameWord, tokenIf, expectToken, threeDots, skipParens}
+use Rattle.grammar.specs.Lexer.{spaceStep, eatWs, refuse, place, isByte, byteIf, byteAtIf, eatN, wordIf, rankIf, rank, sameWord, tokenIf, expectToken, threeDots}
 use Rattle.grammar.specs.Attributes.{parenAttrs, flagAttrs, skipAttrsIn, skipAttrs}
 use Rattle.grammar.specs.Types.{Listed, listed, TypeOut, plain, opened, room, child, wholeOf, whole, behind, typeChild, commaOr, commaList, dotsList, typeItem, parseTypeList, ptrWords, intType, nameNode, arrayType, structType, packedType, leafTypes, optAddrspace, parseBaseType, suffixes, typeWith, noType, parseType}
-use Rattle.lexer.specs.Step.{looksP, wordP, passed, refused, countedP}
+use Rattle.lexer.specs.Step.{looksP, passed, refused, countedP}
 use Rattle.writer.specs.Writes.{replaced, replaces, backTo}
 use Rattle.lexer.specs.Reads.{Budget, At, Ends, at, out, Leads, Goal, made, reach, same, Gives, Comes}
 use Rattle.lexer.specs.declared.Cursor.{Cursor}
 use Rattle.lexer.specs.declared.Parsed.{Parsed}
 use Rattle.lexer.specs.declared.Parsed.the-variants.{Ok, Refused}
 use Rattle.writer.proofs.Words.{front}
-use Rattle.lexer.proofs.Laws.{more, no-more, true-false, g-done, g-word-no, word-no, after, bind-at, at-less, at-place, at-part, at-whole, run-eat, done, stay, then, val, byte-yes, byte-no, fail-is, dots-yes, dots-no, place-then, pass-in}
+use Rattle.lexer.proofs.Laws.{more, no-more, word-no, after, bind-at, at-less, at-place, at-part, at-whole, run-eat, done, stay, then, val, byte-yes, byte-no, fail-is, dots-yes, dots-no, place-then, pass-in}
 use Rattle.writer.proofs.Laws.{replace-then}
 use Rattle.lexer.proofs.Children.{assoc, nest, g-room, in-room, comma-yes, comma-no}
 use Rattle.leaf_types.specs.Leaf.{wordTypes}

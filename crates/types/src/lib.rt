@@ -5,7 +5,7 @@ ghost use mathlib.Core.List.{List, []};
 ghost use Prim.Native.Nat.{ℕ, _+_, _<_};
 ghost use Rattle.grammar.specs.Types.{listed, structFields, parseTypeList, arrayType, structType, packedType, parseBaseType, suffixes, noType, parseType};
 ghost use Rattle.lexer.specs.Table.{Classes};
-ghost use Rattle.lexer.specs.Reads.{Leads, Reads, Gives, made, same};
+ghost use Rattle.lexer.specs.Reads.{Leads, Reads, made, same};
 ghost use Rattle.types.specs.Reading.{typed, Types};
 
 // A list's answer: how many, and 1 where `...` ends it.

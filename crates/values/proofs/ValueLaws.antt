@@ -5,21 +5,20 @@ use mathlib.Core.List.{List, [], _∷_, _++_}
 use mathlib.Core.Bool.{Bool, true, false}
 use Prim.Native.Nat.{ℕ, zero, suc, _+_, _-_, _≤_, _<_}
 use native.Mathlib.Omega.{arith}
-use lib.ListN.{length, drop}
+use lib.ListN.{length}
 use Rattle.program.specs.Bytes.{bytes}
 use Rattle.program.specs.Choice.{pick}
 use Rattle.program.specs.Class.{classOf, isWord, isDigit}
-use Rattle.program.specs.Prog.{Prog, ret, eat, Res, no-at, run, _>>=_, byteAt, leadWord}
+use Rattle.program.specs.Prog.{Prog, ret, no-at, run, _>>=_, byteAt, leadWord}
 use Rattle.program.specs.Local.{next, run-bind}
 use Rattle.grammar.specs.Lexer.{eatWs, refuse, place, byteIf, sameWord, startsWith, eatN, wordAtIf, rank, skipKeyword}
 use Rattle.grammar.specs.Types.{Listed, listed, TypeOut, room, child, whole, typeChild, commaOr, commaList, parseType}
 use Rattle.grammar.specs.Values.{convOps, binOps, prefixIf, digitIf, numericOr, leafValues, pairWith, pairChild, aggregate, packedConst, gepIndices, constExprs, valueWith, parseValue, parseTypedVal}
-use Rattle.lexer.specs.Step.{wordP, placeP, passed, refused, countedP}
+use Rattle.lexer.specs.Step.{placeP, refused, countedP}
 use Rattle.lexer.specs.Reads.{at, Leads, Goal, made, reach, same, Gives, Comes, Counts}
-use Rattle.lexer.specs.declared.Cursor.{Cursor}
 use Rattle.lexer.specs.declared.Parsed.{Parsed}
 use Rattle.lexer.specs.declared.Parsed.the-variants.{Ok, Refused}
-use Rattle.lexer.proofs.Laws.{more, no-more, no-ok, true-false, some-word, run-eat, moved, done, stay, then, val, fail-is, call, place-at}
+use Rattle.lexer.proofs.Laws.{more, no-more, no-ok, done, stay, then, val, fail-is, call, place-at}
 use Rattle.lexer.proofs.Children.{assoc, child-is, counted-hands, if-there, comma-yes, comma-no}
 use Rattle.types.specs.Reading.{Types}
 use Rattle.types.proofs.TypeLaws.{Stuck, type-then, space-run, byte-run-no, word-run-no, rank-run-no, fail-run, type-child, comma-again, comma-stop, comma-turn}

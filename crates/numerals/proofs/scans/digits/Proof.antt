@@ -7,7 +7,8 @@ use borrow.Author.Needs.{needs}
 use Rattle.grammar.specs.Numbers.{digitStep}
 use Rattle.arithmetic.specs.Folds.{folded}
 use Rattle.numerals.specs.Scans.{pushedIn}
-use Rattle.numerals.proofs.ScanLaws.{Folding, folding-start, digit-more, digit-score, digit-stop, digit-none, digit-out, digits-here, digits-kept}
+use Rattle.lexer.proofs.Folding.{Folding, folding-start}
+use Rattle.numerals.proofs.ScanLaws.{digit-more, digit-score, digit-stop, digit-none, digit-out, digits-here, digits-kept}
 use Rattle.numerals.proofs.scans.digits.Statement.{statement}
 use Rattle.numerals.proofs.scans.digits.Tie as tie
 

@@ -1,8 +1,8 @@
 -- The digits folded, and their literal.
 use borrow.Author.Needs.{needs}
-use Rattle.numerals.proofs.HexLaws.{bits-hex}
-use Rattle.numerals.proofs.reads.parse_hex_float.Statement.{statement}
-use Rattle.numerals.proofs.reads.parse_hex_float.Tie as tie
+use Rattle.hex_floats.proofs.HexLaws.{bits-hex}
+use Rattle.hex_floats.proofs.parse_hex_float.Statement.{statement}
+use Rattle.hex_floats.proofs.parse_hex_float.Tie as tie
 
 returns : tie.Need-returns
 returns c = bits-hex (c .before .before .before .hex-digits .ensures) (c .before .hex-literal .ensures) (c .bits-of .ensures _)

@@ -4,10 +4,10 @@ use lib.ListN.{length}
 use borrow.Author.Needs.{needs}
 use Rattle.grammar.specs.Numbers.{hexStep}
 use Rattle.arithmetic.specs.Hex.{hexHeld, hexFolded}
-use Rattle.numerals.proofs.HexLaws.{hex-here, hex-kept}
-use Rattle.numerals.proofs.ScanLaws.{Folding, folding-start, hex-more, hex-stop, hex-out}
-use Rattle.numerals.proofs.scans.hex_digits.Statement.{statement}
-use Rattle.numerals.proofs.scans.hex_digits.Tie as tie
+use Rattle.hex_floats.proofs.HexLaws.{hex-here, hex-kept, hex-more, hex-stop, hex-out}
+use Rattle.lexer.proofs.Folding.{Folding, folding-start}
+use Rattle.hex_floats.proofs.hex_digits.Statement.{statement}
+use Rattle.hex_floats.proofs.hex_digits.Tie as tie
 
 abbrev Inv-loop : tie.InvT-loop
 Inv-loop classes text h₀ c i₀ h i = Folding hexStep hexFolded text i₀ (hexHeld 0 0) i 0 h

@@ -1,8 +1,8 @@
 -- The digits folded, and their literal.
 use borrow.Author.Needs.{needs}
-use Rattle.numerals.proofs.HexLaws.{bits-f0x}
-use Rattle.numerals.proofs.reads.parse_f0x.Statement.{statement}
-use Rattle.numerals.proofs.reads.parse_f0x.Tie as tie
+use Rattle.hex_floats.proofs.HexLaws.{bits-f0x}
+use Rattle.hex_floats.proofs.parse_f0x.Statement.{statement}
+use Rattle.hex_floats.proofs.parse_f0x.Tie as tie
 
 returns : tie.Need-returns
 returns c = bits-f0x (c .before .before .before .hex-digits .ensures) (c .before .f0x-literal .ensures) (c .bits-of .ensures _)

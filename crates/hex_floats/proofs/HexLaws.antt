@@ -3,11 +3,12 @@
 use mathlib.Core.Path.{_≡_, refl, sym, ap, _∙_, subst}
 use mathlib.Core.List.{List, []}
 use mathlib.Core.Bool.{Bool, true, false}
-use Prim.Native.Nat.{ℕ, _+_}
+use Prim.Native.Nat.{ℕ, _+_, _≤_, _<_}
 use native.Mathlib.Omega.{arith}
 use lib.Dec.{eqb}
-use lib.ListN.{length, drop}
-use Rattle.program.specs.Class.{inside}
+use borrow.Author.Tests.{lt-ltb, le-ltb}
+use lib.ListN.{length, drop, getD}
+use Rattle.program.specs.Class.{classOf, inside, isHex}
 use Rattle.program.specs.Prog.{Prog, ret, scan, run, ok, no-at, _>>=_, scanLen}
 use Rattle.grammar.specs.Lexer.{refuse}
 use Rattle.grammar.specs.Numbers.{hexStep, hexOf, widen, parseHexFloat, parseF0x, float, Literal as Written}
@@ -17,16 +18,30 @@ use Rattle.lexer.specs.declared.Cursor.{Cursor}
 use Rattle.lexer.specs.declared.Parsed.{Parsed}
 use Rattle.lexer.specs.declared.Parsed.the-variants.{Ok, Refused}
 use Rattle.lexer.proofs.Laws.{given as from-run, kept, g-then, g-done, g-fail, scan-run}
-use Rattle.arithmetic.specs.Hex.{hexHeld, hexFolded, allHex}
+use Rattle.arithmetic.specs.Hex.{hexHeld, hexFolded, hexPushed, allHex}
 use Rattle.arithmetic.specs.Literals.{given, hexLiteral, f0xLiteral}
 use Rattle.arithmetic.specs.declared.hex.Hex.{Hex}
 use Rattle.arithmetic.specs.declared.literal.Literal.the-variants.{Int, Float, Refused as Question}
 use Rattle.arithmetic.specs.declared.literal.Literal.{Literal}
 use Rattle.arithmetic.proofs.Digits16.{hex-literal, f0x-literal}
 use Rattle.arithmetic.proofs.Scans.{hex-all}
-use Rattle.numerals.specs.Scans.{HexAt}
-use Rattle.numerals.proofs.ScanLaws.{FoldsTo}
-use Rattle.numerals.specs.Reads.{bitsIn}
+use Rattle.lexer.proofs.Folding.{FoldsTo, Folding, folding-out, folding-stop, folding-more}
+use Rattle.hex_floats.specs.Hex.{HexAt, bitsIn}
+
+-- ---- hex digits
+module _ {text : List ℕ} {at : ℕ} {s0 : Hex} {i : ℕ} {s : Hex} where
+  pub hex-out : Folding hexStep hexFolded text at s0 i 0 s → length text ≤ i → FoldsTo hexStep hexFolded text at s0 i s
+  unfolding hexFolded
+  hex-out a h = folding-out hexStep hexFolded text at s0 i 0 s a refl h
+
+  module _ {d : ℕ} (a : Folding hexStep hexFolded text at s0 i 0 s) (h : i < length text) (e : d ≡ classOf (getD text i 0)) where
+    pub hex-more : {t : Hex} → d < 16 → t ≡ hexPushed s d → Folding hexStep hexFolded text at s0 (i + 1) 0 t
+    unfolding hexFolded hexStep isHex
+    hex-more {t} k n = folding-more hexStep hexFolded text at s0 i 0 s a 0 t (λ l. rw (← e, ← n)) h (rw (← e, lt-ltb _ _ k))
+
+    pub hex-stop : 16 ≤ d → FoldsTo hexStep hexFolded text at s0 i s
+    unfolding hexFolded hexStep isHex
+    hex-stop k = folding-stop hexStep hexFolded text at s0 i 0 s a refl h (rw (← e, le-ltb _ _ k))
 
 -- ---- the digits at the cursor
 hex-run : (text : List ℕ) (at i : ℕ) → i ≡ at + scanLen hexStep 0 (drop at text) → run (scan hexStep 0 ret) at (drop at text) ≡ ok (taken hexStep 0 (drop at text)) i

@@ -1,8 +1,8 @@
 -- By the literal: hex digits make no integer.
 use borrow.Author.Needs.{needs}
-use Rattle.numerals.proofs.HexLaws.{bits-int, bits-float, bits-out}
-use Rattle.numerals.proofs.reads.bits_of.Statement.{statement}
-use Rattle.numerals.proofs.reads.bits_of.Tie as tie
+use Rattle.hex_floats.proofs.HexLaws.{bits-int, bits-float, bits-out}
+use Rattle.hex_floats.proofs.bits_of.Statement.{statement}
+use Rattle.hex_floats.proofs.bits_of.Tie as tie
 
 returns : tie.Need-returns
 returns c = λ text. bits-int _ _ (c .before .before .lit .given .1) (c .refuse .ensures)
