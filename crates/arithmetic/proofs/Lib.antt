@@ -1,14 +1,5 @@
-pub mod Bits
-pub mod Columns
-pub mod Decimals
 pub mod Digits16
 pub mod Folds
 pub mod Halves
-pub mod Integers
-pub mod Nearest
-pub mod Numerals
-pub mod Powers
-pub mod Scale
 pub mod Scans
 pub mod Widen
-pub mod Shifts

@@ -9,7 +9,7 @@ use lib.Dec.{lit≤}
 use lib.Pow.{pow-add, shl-lt}
 use borrow.Author.Tests.{eq-eqb, ne-eqb, le-leb, lt-leb}
 use Rattle.grammar.specs.Numbers.{widen, widenParts, specialBits, subnormalAt, subnormalBits}
-use Rattle.arithmetic.proofs.Powers.{pow-lt-cancel, log2-is}
+use Rattle.grammar.specs.Powers.{pow-lt-cancel, log2-is}
 
 -- exponent 255
 pub infinity-is : (f : ℕ) → f ≡ 0 → 9218868437227405312 ≡ specialBits f

@@ -1,14 +1,14 @@
 // The bits of floats. 01: "`0x` or `0X` takes 1 to 16 hex digits as bits; `f0x` exactly 8 (binary32 widened) or 16."
-use crate::ieee::BIAS;
-use crate::ieee::INFINITY64;
-use crate::ieee::MOVED;
-use crate::ieee::QUIET32;
-use crate::ieee::SIGN32;
-use crate::ieee::SIGN64;
-use crate::ieee::TOP32;
-use crate::ieee::UNIT32;
-use crate::ieee::UNIT64;
-use crate::number::wide;
+use bits::ieee::BIAS;
+use bits::ieee::INFINITY64;
+use bits::ieee::MOVED;
+use bits::ieee::QUIET32;
+use bits::ieee::SIGN32;
+use bits::ieee::SIGN64;
+use bits::ieee::TOP32;
+use bits::ieee::UNIT32;
+use bits::ieee::UNIT64;
+use bits::wide;
 ghost use mathlib.Core.Path.{_≡_};
 ghost use Prim.Native.Nat.{_+_, _-_, _*_, _^_, _<_};
 ghost use Rattle.grammar.specs.Numbers.{widen, specialBits, subnormalBits};

@@ -1,5 +1,5 @@
 // Integers of 128 bits in two halves. 01, question 7: "an integer within signed 128 bits".
-use crate::number::wide;
+use bits::wide;
 ghost use mathlib.Core.Path.{_≡_};
 ghost use mathlib.Core.Bool.{true};
 ghost use Prim.Native.Nat.{_+_, _*_, _/_, _%_, _^_};

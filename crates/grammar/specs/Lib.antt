@@ -1,5 +1,6 @@
 pub mod Lexer
 pub mod Numbers
+pub mod Powers
 pub mod Attributes
 pub mod Types
 pub mod Values

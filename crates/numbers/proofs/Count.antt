@@ -17,11 +17,11 @@ use Rattle.grammar.specs.Lexer.{refuse}
 use Rattle.grammar.specs.Numbers.{digitStep, digits, valueOf, numberOf, parseInt}
 use Rattle.records.specs.Limits.{numberLimit}
 use Rattle.lexer.specs.Step.{stepCode, taken}
-use Rattle.arithmetic.specs.Number.{capped, shifted}
-use Rattle.arithmetic.proofs.Shifts.{small, shifted-more}
+use Rattle.bits.specs.Number.{capped, shifted}
+use Rattle.bits.proofs.Shifts.{small, shifted-more}
 use Rattle.numbers.specs.Number.{added, NumAt}
-use Rattle.arithmetic.specs.declared.number.Val.{Val}
-use Rattle.arithmetic.specs.declared.number.Val.the-variants.{Exact}
+use Rattle.bits.specs.declared.Val.{Val}
+use Rattle.bits.specs.declared.Val.the-variants.{Exact}
 use Rattle.program.specs.Lists.{drop-next}
 use Rattle.lexer.proofs.Scan.{scan-more, scan-stop, scan-out, stops, goes}
 use Rattle.lexer.proofs.Laws.{scan-run}

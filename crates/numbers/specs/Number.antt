@@ -12,8 +12,8 @@ use Rattle.program.specs.Prog.{scanLen}
 use Rattle.grammar.specs.Numbers.{digitStep, valueOf}
 use Rattle.lexer.specs.Step.{taken}
 use Rattle.numbers.specs.declared.Digits.{Digits}
-use Rattle.arithmetic.specs.declared.number.Val.{Val}
-use Rattle.arithmetic.specs.Number.{capped, shifted}
+use Rattle.bits.specs.declared.Val.{Val}
+use Rattle.bits.specs.Number.{capped, shifted}
 
 -- one digit or `_` more
 abbrev pub added : Val → ℕ → Val

@@ -1,6 +1,6 @@
 // Numbers of at most 64 bits in a text (`parse_int`), questions 4 and 15.
-use arithmetic::number::Val;
-use arithmetic::number::shift;
+use bits::Val;
+use bits::shift;
 use lexer::Cursor;
 use lexer::Num;
 use lexer::Parsed;

@@ -1,2 +1,5 @@
 pub mod ScanLaws
 pub mod NumeralLaws
+pub mod IntegerFolds
+pub mod DecimalFolds
+pub mod NumeralFolds

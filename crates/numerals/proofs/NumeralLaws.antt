@@ -21,12 +21,12 @@ use Rattle.lexer.specs.declared.Parsed.the-variants.{Ok, Refused}
 use Rattle.lexer.proofs.Laws.{given as from-run, g-then, g-done, g-byte-yes, g-byte-no, g-fail, true-false}
 use Rattle.arithmetic.specs.Folds.{folded, allDigits, begins}
 use Rattle.arithmetic.specs.Literals.{given}
-use Rattle.arithmetic.specs.Numerals.{started, wholePushed, pointPassed, partPushed, exponentPassed, powerPushed, exponentOf, partOf, foldOf, literalIn}
+use Rattle.numerals.specs.Numerals.{started, wholePushed, pointPassed, partPushed, exponentPassed, powerPushed, exponentOf, partOf, foldOf, literalIn}
 use Rattle.arithmetic.specs.declared.literal.Literal.the-variants.{Int, Float, Refused as Question}
 use Rattle.arithmetic.specs.declared.literal.Literal.{Literal}
-use Rattle.arithmetic.specs.declared.numeral.Fold.{Fold}
+use Rattle.numerals.specs.declared.folds.Fold.{Fold}
 use Rattle.arithmetic.proofs.Halves.{W, small-in, halves-are, negated-low}
-use Rattle.arithmetic.proofs.Numerals.{numeral-literal}
+use Rattle.numerals.proofs.NumeralFolds.{numeral-literal}
 use Rattle.numerals.specs.Scans.{DigitsAt, ShortAt}
 use Rattle.numerals.specs.Reads.{PowerAt, TailAt, NumeralAt, LitAt, writtenOf, Out}
 use Rattle.numerals.specs.declared.Part.the-variants.{Whole, Behind, Power}

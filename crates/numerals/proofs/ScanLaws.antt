@@ -22,7 +22,7 @@ use Rattle.program.specs.Lists.{drop-next}
 use Rattle.lexer.proofs.Folding.{FoldsTo, Folding, folding-start, folding-out, folding-stop, folding-more}
 use Rattle.lexer.proofs.Laws.{given, kept, scan-run, true-false}
 use Rattle.arithmetic.specs.Folds.{folded, allDigits, begins}
-use Rattle.arithmetic.specs.declared.numeral.Fold.{Fold}
+use Rattle.numerals.specs.declared.folds.Fold.{Fold}
 use Rattle.arithmetic.proofs.Scans.{digits-all, digits-begin}
 use Rattle.numerals.specs.Scans.{pushedIn, DigitsAt, ShortAt}
 use Rattle.numerals.specs.declared.Part.{Part}

@@ -10,10 +10,10 @@ use Rattle.lexer.specs.Reads.{Gives}
 use Rattle.lexer.specs.declared.Parsed.{Parsed}
 use Rattle.lexer.specs.declared.Parsed.the-variants.{Ok, Refused}
 use Rattle.arithmetic.specs.Folds.{folded, begins}
-use Rattle.arithmetic.specs.Numerals.{exponentPassed, powerPushed, foldOf, Written as Proper}
+use Rattle.numerals.specs.Numerals.{exponentPassed, powerPushed, foldOf, Written as Proper}
 use Rattle.arithmetic.specs.declared.literal.Literal.the-variants.{Int, Float, Refused as Question}
 use Rattle.arithmetic.specs.declared.literal.Literal.{Literal}
-use Rattle.arithmetic.specs.declared.numeral.Fold.{Fold}
+use Rattle.numerals.specs.declared.folds.Fold.{Fold}
 use Rattle.numerals.specs.declared.Lit.{Lit}
 
 -- An exponent behind its `e`, behind the state s0.

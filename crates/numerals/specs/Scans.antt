@@ -12,8 +12,8 @@ use Rattle.lexer.specs.Step.{taken}
 use Rattle.lexer.specs.Reads.{Gives}
 use Rattle.lexer.specs.declared.Parsed.{Parsed}
 use Rattle.arithmetic.specs.Folds.{folded, allDigits, begins}
-use Rattle.arithmetic.specs.Numerals.{wholePushed, partPushed, powerPushed}
-use Rattle.arithmetic.specs.declared.numeral.Fold.{Fold}
+use Rattle.numerals.specs.Numerals.{wholePushed, partPushed, powerPushed}
+use Rattle.numerals.specs.declared.folds.Fold.{Fold}
 use Rattle.numerals.specs.declared.Part.{Part}
 use Rattle.numerals.specs.declared.Part.the-variants.{Whole, Behind, Power}
 

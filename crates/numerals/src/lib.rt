@@ -1,9 +1,10 @@
 // Numerals in a text (`read_numeric`): digits are folded as they are scanned. 01: "Types and values", questions 7 and 17.
+pub mod folds; // folds.rt: the state of a numeral, and what it is in the end
 pub mod reads; // reads.rt: numerals
 pub mod scans; // scans.rt: digits, folded
 
+use crate::folds::Fold;
 use arithmetic::literal::Literal;
-use arithmetic::numeral::Fold;
 use lexer::Parsed;
 
 // A literal and where the reader is behind it. Where it is refused, so is the reader.

@@ -2,11 +2,11 @@
 use crate::Folded;
 use crate::Part;
 use crate::Short;
+use crate::folds::Fold;
+use crate::folds::part_digit;
+use crate::folds::power_digit;
+use crate::folds::whole_digit;
 use arithmetic::integer::TENFOLD_LIMIT;
-use arithmetic::numeral::Fold;
-use arithmetic::numeral::part_digit;
-use arithmetic::numeral::power_digit;
-use arithmetic::numeral::whole_digit;
 use lexer::Cursor;
 use lexer::Parsed;
 use lexer::class;

@@ -2,7 +2,7 @@
 use mathlib.Core.Path.{sym, _∙_}
 use native.Mathlib.Omega.{arith}
 use Rattle.lexer.proofs.Laws.{given, gone, kept}
-use Rattle.arithmetic.proofs.Shifts.{exact-of, over-of}
+use Rattle.bits.proofs.Shifts.{exact-of, over-of}
 use Rattle.numbers.proofs.Count.{no-digits, too-low, too-high, too-far, fits}
 use borrow.Author.Needs.{needs}
 use Rattle.numbers.proofs.parse_int.Statement.{statement}

@@ -1,0 +1,4 @@
+pub mod Columns
+pub mod Nearest
+pub mod Scale
+pub mod Bits
