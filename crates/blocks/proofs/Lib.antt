@@ -1,3 +1,4 @@
 pub mod OpcodeLaws
 pub mod StatementLaws
 pub mod BlockLaws
+pub mod PartLaws

@@ -1,3 +1,4 @@
 pub mod Bodied
 pub mod Opcodes
 pub mod Stated
+pub mod Part

@@ -3,13 +3,14 @@ pub mod opcodes; // opcodes.rt: the rank of an opcode, and the reader of each
 pub mod statements; // statements.rt: a statement by its first word
 
 use directory::pieces::Piece;
+use directory::pieces::Spot;
 use lexer::Cursor;
 use lexer::Parsed;
 ghost use mathlib.Core.Path.{_≡_};
 ghost use mathlib.Core.List.{[]};
 ghost use Prim.Native.Nat.{_≤_};
-ghost use lib.ListN.{length};
-ghost use Rattle.records.specs.Limits.{turns};
+ghost use lib.ListN.{length, drop};
+ghost use Rattle.records.specs.Limits.{turns, textLimit};
 ghost use Rattle.grammar.specs.Body.{parseBody};
 ghost use Rattle.grammar.specs.Function.{blockAt};
 ghost use Rattle.lexer.specs.Table.{Classes};
@@ -17,6 +18,7 @@ ghost use Rattle.lexer.specs.Reads.{Leads};
 ghost use Rattle.operands.specs.Rich.{richly};
 ghost use Rattle.directory.specs.Piece.{BlockIs};
 ghost use Rattle.blocks.specs.Bodied.{bodied};
+ghost use Rattle.blocks.specs.Part.{BlockIn, BlockDry};
 
 // Where the reader is behind a body: is it the tail; else the last label, how many instructions, the place behind the 65,536th.
 pub struct Body {
@@ -101,4 +103,26 @@ pub fn parse_block(classes: &[u8; 256], text: &[u8], words: &mut [u64]) -> Piece
     }
     let r2 = closing::finish_block(words, p, q, b.label, b.n, b.over);
     closing::piece_of(r2)
+}
+
+// The block or tail there. Its words stand from there on, as far as `to`.
+pub fn block_in(classes: &[u8; 256], text: &[u8], words: &mut [u64], spot: Spot, to: usize) -> Piece
+    requires { ⌜ Classes (now classes) ⌝ }
+    requires { ⌜ (length (now text) ≤ textLimit) × (spot .pos ≤ length (now text)) ⌝ }
+    requires { ⌜ (spot .word ≤ to) × (to ≤ length (now words)) ⌝ }
+    ensures { λ r. ⌜ BlockIn (drop (spot .pos) (now (text .entry))) (spot .word) to (now (words .entry)) (now (words .exit)) r ⌝ }
+{
+    let pos = spot.pos;
+    let word = spot.word;
+    parse_block(classes, &text[pos..], &mut words[word..to])
+}
+
+// The block or tail at pos, its words only counted.
+pub fn block_dry(classes: &[u8; 256], text: &[u8], pos: usize) -> Piece
+    requires { ⌜ Classes (now classes) ⌝ }
+    requires { ⌜ (length (now text) ≤ textLimit) × (pos ≤ length (now text)) ⌝ }
+    ensures { λ r. ⌜ BlockDry (drop pos (now (text .entry))) r ⌝ }
+{
+    let mut none = [0u64; 0];
+    parse_block(classes, &text[pos..], &mut none)
 }

@@ -1,3 +1,4 @@
 pub mod Stores
 pub mod Links
 pub mod Moved
+pub mod Stretch

@@ -1,2 +1,3 @@
 pub mod Olds
 pub mod Piece
+pub mod Stretch

@@ -7,12 +7,14 @@ ghost use mathlib.Core.Path.{_≡_};
 ghost use mathlib.Core.List.{[]};
 ghost use Prim.Native.Nat.{ℕ, _≤_, _<_};
 ghost use lib.ListN.{length};
+ghost use Rattle.records.specs.Limits.{textLimit};
 ghost use Rattle.grammar.specs.Types.{listed};
 ghost use Rattle.grammar.specs.Body.{parseParam, parseParamList, parseHead};
 ghost use Rattle.grammar.specs.Function.{headAt};
 ghost use Rattle.lexer.specs.Table.{Classes};
 ghost use Rattle.lexer.specs.Reads.{Leads, made};
 ghost use Rattle.directory.specs.Piece.{HeadIs};
+ghost use Rattle.head.specs.Part.{HeadIn, HeadDry};
 ghost use Rattle.head.specs.Reading.{parameter, shuts};
 
 // A parameter: a type, attributes, and a name where one stands. The name's word stands before the type's.
@@ -126,4 +128,24 @@ pub fn parse_head(classes: &[u8; 256], text: &[u8], words: &mut [u64]) -> Piece
     let p = Parsed::Ok(Cursor { at: 0, w: 0 });
     let q = head_node(classes, text, words, p);
     closing::piece_of(q)
+}
+
+// The head. Its words stand from `word` on, as far as `to`.
+pub fn head_in(classes: &[u8; 256], text: &[u8], words: &mut [u64], word: usize, to: usize) -> Piece
+    requires { ⌜ Classes (now classes) ⌝ }
+    requires { ⌜ length (now text) ≤ textLimit ⌝ }
+    requires { ⌜ (word ≤ to) × (to ≤ length (now words)) ⌝ }
+    ensures { λ r. ⌜ HeadIn (now (text .entry)) word to (now (words .entry)) (now (words .exit)) r ⌝ }
+{
+    parse_head(classes, text, &mut words[word..to])
+}
+
+// The head, its words only counted.
+pub fn head_dry(classes: &[u8; 256], text: &[u8]) -> Piece
+    requires { ⌜ Classes (now classes) ⌝ }
+    requires { ⌜ length (now text) ≤ textLimit ⌝ }
+    ensures { λ r. ⌜ HeadDry (now (text .entry)) r ⌝ }
+{
+    let mut none = [0u64; 0];
+    parse_head(classes, text, &mut none)
 }

@@ -19,12 +19,12 @@ use Rattle.records.specs.Pieces.{HeadRead, head, badHead, BlockRead, block, tai
 use Rattle.theorem_edits.specs.Law.{Grammar}
 use Rattle.rooms.specs.Rooms.{roomOf, afterRoom}
 use Rattle.directory.specs.Olds.{oldsOf, Chained, Passed, JoinsAt, JoinsNot}
-use Rattle.keeping.specs.Place.{fullThen, readThen, readSize, readWords, restLeft, Settled}
+use Rattle.keeping.specs.Place.{readThen, readSize, readWords, restLeft, Settled}
 use Rattle.rooms.specs.declared.Room.the-variants.{Fits, Words, Entry}
 use Rattle.directory.proofs.Links.{olds-length, words-split, no-more}
 use Rattle.rooms.proofs.Judge.{judge-item, Fitting, fitting, kept-room}
 use Rattle.older.proofs.Find.{passed-first, passed-later, kept-size}
-use Rattle.keeping.proofs.Place.{full-snoc, read-snoc, size-snoc, words-snoc}
+use Rattle.keeping.proofs.Place.{read-snoc, size-snoc, words-snoc}
 
 module _ (headAt : List ℕ → HeadRead) (blockAt : List ℕ → BlockRead) (G : Grammar headAt blockAt) (c olen : ℕ) (os : List Old) where
   -- Fuel past the suffix's length makes no difference.
@@ -375,48 +375,3 @@ module _ (headAt : List ℕ → HeadRead) (blockAt : List ℕ → BlockRead) (G 
             at-in = omega (arith, fitting W D 0 0 (length ws) h .in-words);
             i-in = omega (arith, fitting W D 0 0 (length ws) h .entry);
           }
-
--- ---- how far a full reading has come
-pub record ReadFull (W D : ℕ) (v : Verdict) (whole : Run (List ℕ)) (fs : List (ℕ × List ℕ)) (r : Run (List ℕ)) (i pos at : ℕ) : Type 0 where
-  pub run : whole ≡ fullThen fs r
-  pub verdict : v ≡ judge W D i pos at (mapRun length r)
-  pub number : i ≡ length fs
-  pub place : pos ≡ readSize fs
-  pub first : at ≡ length (readWords fs)
-
-pub full-first : (W D : ℕ) (whole : Run (List ℕ)) → ReadFull W D (judge W D 0 0 0 (mapRun length whole)) whole [] whole 0 0 0
-unfolding fullThen readSize readWords
-full-first W D whole = record { run = refl; verdict = refl; number = refl; place = refl; first = refl }
-
-module _ {W D : ℕ} {v : Verdict} {whole : Run (List ℕ)} {fs : List (ℕ × List ℕ)} {r : Run (List ℕ)} {i pos at : ℕ} (g : ReadFull W D v whole fs r i pos at) where
-  full-turn : (e : ℕ) (ws : List ℕ) (r2 : Run (List ℕ)) → r ≡ item e ws r2 → v ≡ afterRoom (roomOf W D i at (length ws)) (pos + e) (judge W D (suc i) (pos + e) (at + length ws) (mapRun length r2))
-  unfolding mapRun
-  full-turn e ws r2 h = g .verdict ∙ rw h (judge-item W D i at (length ws) pos e (mapRun length r2))
-
-  pub full-more : (e : ℕ) (ws : List ℕ) (r2 : Run (List ℕ)) → r ≡ item e ws r2 → roomOf W D i at (length ws) ≡ Fits
-      → ReadFull W D v whole (fs ++ ((e, ws) ∷ [])) r2 (i + 1) (pos + e) (at + length ws)
-  unfolding afterRoom
-  full-more e ws r2 h f =
-      record {
-        run = g .run ∙ ap (fullThen fs) h ∙ full-snoc fs e ws r2;
-        verdict = full-turn e ws r2 h ∙ rw (f, add-one i);
-        number = omega (arith, g .number, length-append fs ((e, ws) ∷ []));
-        place = omega (arith, g .place, size-snoc fs e ws);
-        first = omega (arith, g .first, ap length (words-snoc fs e ws), length-append (readWords fs) ws);
-      }
-
-  pub full-no-words : (e : ℕ) (ws : List ℕ) (r2 : Run (List ℕ)) → r ≡ item e ws r2 → roomOf W D i at (length ws) ≡ Words → v ≡ refused qWords (pos + e)
-  unfolding afterRoom
-  full-no-words e ws r2 h f = full-turn e ws r2 h ∙ rw f
-
-  pub full-no-entry : (e : ℕ) (ws : List ℕ) (r2 : Run (List ℕ)) → r ≡ item e ws r2 → roomOf W D i at (length ws) ≡ Entry → v ≡ refused qEntries (pos + e)
-  unfolding afterRoom
-  full-no-entry e ws r2 h f = full-turn e ws r2 h ∙ rw f
-
-  pub full-refuses : (q p : ℕ) → r ≡ stop q p → v ≡ refused q (pos + p)
-  unfolding mapRun judge
-  full-refuses q p h = g .verdict ∙ rw h
-
-  pub full-all : r ≡ done → (whole ≡ fullThen fs done) × (v ≡ fine)
-  unfolding mapRun judge
-  full-all h = (g .run ∙ ap (fullThen fs) h, g .verdict ∙ rw h)

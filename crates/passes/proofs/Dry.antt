@@ -24,11 +24,12 @@ use Rattle.rooms.proofs.Judge.{Fitting, fitting, kept-room}
 use Rattle.older.proofs.Find.{passed-first, passed-later, kept-size}
 use Rattle.keeping.proofs.Front.{front-count, front-size}
 use Rattle.passes.proofs.Again.{Read, read-more, read-no-words, read-no-entry, read-refused, read-kept, read-all, again-joined, again-block, again-tail, again-bad, behind-joined, behind-head, behind-bad, behind-some, settled-all}
-use Rattle.passes.specs.Parts.{HeadIn, BlockIn, HeadDry, BlockDry}
+use Rattle.head.specs.Part.{HeadIn, HeadDry}
+use Rattle.blocks.specs.Part.{BlockIn, BlockDry}
 use Rattle.passes.specs.Numbered.{Takes, Closes, Stops, PieceDry, PieceIn}
 use Rattle.passes.specs.First.{kept, keptSize, keptWords, behind, said, onward, Given, Dry, Took, Planned}
-use Rattle.passes.proofs.Stretch.{decide}
-use Rattle.passes.proofs.Whole.{laws}
+use Rattle.rooms.proofs.Judge.{decide}
+use Rattle.theorem_edits.specs.Again.{laws}
 
 -- ---- a piece by its number
 pub head-first : (text : List ℕ) (i pos : ℕ) (r : Piece) → i ≡ 0 → (i ≡ 0 → pos ≡ 0) → HeadDry text r → PieceDry text i pos r

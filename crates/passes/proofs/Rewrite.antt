@@ -15,7 +15,7 @@ use Rattle.grammar.specs.Function.{headAt, blockAt}
 use Rattle.keeping.specs.Place.{readSize, readWords, readEntries, readsFrom, reads}
 use Rattle.keeping.proofs.Place.{size-snoc, words-snoc, entries-snoc}
 use Rattle.keeping.proofs.Final.{Put, put-first, put-next}
-use Rattle.passes.specs.Parts.{Within, Stands}
+use Rattle.directory.specs.Stretch.{Within, Stands}
 use Rattle.passes.specs.Numbered.{Takes, Closes, Stops}
 use Rattle.passes.specs.Second.{read, Fit, Wrote}
 

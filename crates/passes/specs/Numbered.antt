@@ -8,7 +8,7 @@ use Rattle.records.specs.Pieces.{head, badHead, block, tail, badBlock}
 use Rattle.grammar.specs.Function.{headAt, blockAt}
 use Rattle.directory.specs.declared.pieces.Piece.{Piece}
 use Rattle.directory.specs.declared.pieces.Piece.the-variants.{Read, Tail, Refused}
-use Rattle.passes.specs.Parts.{Within, Stands, Counts}
+use Rattle.directory.specs.Stretch.{Within, Stands, Counts}
 
 -- a head or block of length e with the words ws
 abbrev pub Takes : (text : List ℕ) (i pos e : ℕ) → List ℕ → Type 0

@@ -1,10 +1,10 @@
 // One piece of a text by its number: the head, or from number 1 on a block or the tail.
-use crate::parts::block_dry;
-use crate::parts::block_in;
-use crate::parts::head_dry;
-use crate::parts::head_in;
+use blocks::block_dry;
+use blocks::block_in;
 use directory::pieces::Piece;
 use directory::pieces::Spot;
+use head::head_dry;
+use head::head_in;
 ghost use mathlib.Core.Path.{_≡_};
 ghost use Prim.Native.Nat.{_≤_};
 ghost use lib.ListN.{length};

@@ -22,7 +22,8 @@ use Rattle.keeping.proofs.Final.{Put, put-taken, settled-entries, settled-words
 use Rattle.passes.proofs.Write.{settled-reads}
 use Rattle.passes.specs.First.{kept, keptSize, keptWords, behind, said, Given, Planned}
 use Rattle.passes.specs.Second.{read, Fit, Wrote}
-use Rattle.passes.proofs.Whole.{laws, not-long}
+use Rattle.theorem_edits.specs.Again.{laws}
+use Rattle.texts.proofs.Texts.{not-long}
 use Rattle.passes.proofs.Dry.{kept-in, at-start, count-is, start-is, first-is}
 
 -- the front, as `kept_front` is asked for it

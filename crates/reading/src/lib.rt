@@ -2,9 +2,9 @@
 use directory::arrays::clear;
 use directory::arrays::wipe;
 use directory::pieces::Older;
+use full::Written;
 use passes::first::Known;
 use passes::first::Plan;
-use passes::full::Written;
 use texts::Verdict;
 ghost use mathlib.Core.Path.{_≡_};
 ghost use mathlib.Core.List.{[]};
@@ -57,7 +57,7 @@ pub fn parse_define(text: &[u8], words: &mut [u64], directory: &mut [u64]) -> An
         Verdict::Refused(q, p) => refuse(words, directory, q, p),
         Verdict::Fine => {
             let classes = lexer::classes();
-            match passes::full::read_pieces(&classes, text, words, directory) {
+            match full::read_pieces(&classes, text, words, directory) {
                 Written::Refused(q, p) => refuse(words, directory, q, p),
                 Written::All(entries, word) => {
                     clear(words, word);

@@ -143,3 +143,10 @@ kept-room W D i pos at (old e f n ∷ os) a c h =
     let g : Fitting W D i at n = fitting W D i at n (t .0) in
     let r : RoomFor W D (suc i) (at + n) os = kept-room W D (suc i) (pos + e) (at + n) os (g .in-words) (omega (arith, g .entry)) (t .1) in
     record { in-words = omega (arith, r .in-words); small = λ z. rest-small W D i at n os g r; entries = omega (arith, r .entries) }
+
+-- a refusal by 20 or 21
+pub decide : (room : Room) (place q p : ℕ) (v : Verdict) → ((w : Verdict) → afterRoom room place w ≡ refused q p) → (room ≡ Words → v ≡ refused qWords place) → (room ≡ Entry → v ≡ refused qEntries place) → v ≡ refused q p
+unfolding afterRoom
+decide Fits place q p v h a b = let e : fine ≡ refused q p = h fine in let z : _≡_ {A = ℕ} 0 1 = cc in absurd (omega arith)
+decide Words place q p v h a b = a refl ∙ h fine
+decide Entry place q p v h a b = b refl ∙ h fine

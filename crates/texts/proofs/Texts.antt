@@ -2,7 +2,7 @@
 -- `firstHigh` takes one byte at a time, as the loop does.
 -- Assumes nothing.
 use mathlib.Core.Path.{_≡_, refl}
-use mathlib.Core.Bool.{true, false}
+use mathlib.Core.Bool.{Bool, true, false}
 use mathlib.Core.List.{List, [], _∷_}
 use Prim.Native.Nat.{ℕ, suc, _+_, _≤_, _<_}
 use native.Mathlib.Numerals.{add-one}
@@ -10,7 +10,7 @@ use native.Mathlib.Omega.{arith}
 use lib.Bits.{bitOr, or-add-and, and-le-l, and-le-r}
 use lib.Dec.{leb}
 use lib.ListN.{length, getD, drop, drop-of-length-le}
-use borrow.Author.Tests.{le-leb, lt-leb}
+use borrow.Author.Tests.{le-leb, lt-leb, leb-true}
 use Rattle.program.specs.Lists.{drop-next}
 use Rattle.records.specs.Questions.{qLength, qAscii}
 use Rattle.records.specs.Pieces.{Verdict, fine, refused, firstHigh, textAsked}
@@ -49,3 +49,12 @@ high-here i xs h l = let t : leb (getD xs i 0) byteLimit ≡ false = lt-leb _ _ 
 pub low-end : (i : ℕ) (xs : List ℕ) → length xs ≤ i → firstHigh i (drop i xs) ≡ fine
 unfolding firstHigh
 low-end i xs h = rw (drop-of-length-le xs h)
+
+-- question 1
+pub not-long : (text : List ℕ) → fine ≡ textAsked text → length text ≤ 16777216
+unfolding textAsked
+not-long text h = go (leb (length text) 16777216) refl
+  where
+    go : (b : Bool) → leb (length text) 16777216 ≡ b → length text ≤ 16777216
+    go true t = leb-true (length text) 16777216 t
+    go false t = let w : fine ≡ refused 1 16777216 = rw (textAsked, t) at h in let z : _≡_ {A = ℕ} 0 1 = cc in absurd (omega arith)

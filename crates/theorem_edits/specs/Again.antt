@@ -11,6 +11,7 @@ use Rattle.program.specs.Class.{isWord}
 use Rattle.program.specs.Prog.{Prog, ret, eat, scan, last, Res, ok, closed, no-at, run, _>>=_, byteAt, scanLen}
 use Rattle.program.specs.Local.{next, run-bind, mono}
 use Rattle.records.specs.Pieces.{leftOf, left, count}
+use Rattle.theorem_edits.specs.Law.{Grammar}
 use Rattle.theorem_edits.specs.Same.{same}
 use Rattle.theorem_edits.specs.Programs.{grammar}
 use Rattle.grammar.specs.Lexer.{eatWs, refuse, place, nameStep, quoteStep, quoteEnd, spaceStep, isByte, byteIf, Word, plain, quoted, isEmpty, isEmptyWord, readWord}
@@ -112,8 +113,13 @@ pub block-moves : (s : List ℕ) (e : ℕ) (ws : List ℕ) → run parseBlock 0 
 unfolding parseBlock
 block-moves = body-moves 16777217 0 0 0 []
 
+-- The readers of one piece have what demand 3 asks of them.
+pub laws : Grammar headAt blockAt
+unfolding headAt blockAt
+laws = grammar parseHead parseBlock block-moves
+
 -- Demand 3: on the records of an accepted full reading of the older text, re-reading leaves what a full reading of the newer text leaves.
 pub again-same : (W D n : ℕ) (ws ds older newer : List ℕ) → readingOf W D older ≡ left (count n) ws ds
     → leftOf (rereadingOf ws ds n older newer) ≡ readingOf W D newer
 unfolding headAt blockAt readingOf rereadingOf
-again-same = same headAt blockAt (grammar parseHead parseBlock block-moves)
+again-same = same headAt blockAt laws

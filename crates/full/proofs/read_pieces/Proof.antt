@@ -5,11 +5,11 @@ use native.Mathlib.Omega.{arith}
 use lib.ListN.{length}
 use Rattle.rooms.proofs.Judge.{fitting}
 use Rattle.rooms.specs.Rooms.{Asked}
-use Rattle.passes.specs.Parts.{HeadIn}
-use Rattle.passes.proofs.Whole.{no-head, head-inside, head-room, head-come, come-own, ended-as}
+use Rattle.head.specs.Part.{HeadIn}
+use Rattle.full.proofs.Whole.{no-head, head-inside, head-room, head-come, come-own, ended-as}
 use borrow.Author.Needs.{needs}
-use Rattle.passes.proofs.full.read_pieces.Statement.{statement}
-use Rattle.passes.proofs.full.read_pieces.Tie as tie
+use Rattle.full.proofs.read_pieces.Statement.{statement}
+use Rattle.full.proofs.read_pieces.Tie as tie
 
 ask-requires : tie.Need-ask-requires
 ask-requires c κs =

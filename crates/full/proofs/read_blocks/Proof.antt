@@ -5,12 +5,12 @@ use native.Mathlib.Omega.{arith}
 use lib.ListN.{length, drop, length-drop}
 use Rattle.rooms.proofs.Judge.{fitting}
 use Rattle.rooms.specs.Rooms.{Asked}
-use Rattle.passes.specs.Parts.{BlockIn}
-use Rattle.passes.specs.Full.{Come}
-use Rattle.passes.proofs.Whole.{block-bad, tail-inside, tail-room, tail-whole, block-inside, block-on, block-room, block-come}
+use Rattle.blocks.specs.Part.{BlockIn}
+use Rattle.full.specs.Full.{Come}
+use Rattle.full.proofs.Whole.{block-bad, tail-inside, tail-room, tail-whole, block-inside, block-on, block-room, block-come}
 use borrow.Author.Needs.{needs}
-use Rattle.passes.proofs.full.read_blocks.Statement.{statement}
-use Rattle.passes.proofs.full.read_blocks.Tie as tie
+use Rattle.full.proofs.read_blocks.Statement.{statement}
+use Rattle.full.proofs.read_blocks.Tie as tie
 
 abbrev Inv-loop : tie.InvT-loop
 Inv-loop classes text words₀ directory₀ to lent number₀ pos₀ word₀ words directory number pos word = Come text to (lent .directory) number pos word words directory

@@ -1,9 +1,9 @@
 -- An array of no words holds none of the piece's, and their number is told all the same.
 use mathlib.Core.Path.{refl}
-use Rattle.passes.proofs.Stretch.{head-dry}
+use Rattle.head.proofs.PartLaws.{head-dry}
 use borrow.Author.Needs.{needs}
-use Rattle.passes.proofs.parts.head_dry.Statement.{statement}
-use Rattle.passes.proofs.parts.head_dry.Tie as tie
+use Rattle.head.proofs.head_dry.Statement.{statement}
+use Rattle.head.proofs.head_dry.Tie as tie
 
 returns : tie.Need-returns
 returns c = head-dry (c .before .before .before .before .args .text .now) refl (c .before .parse-head .ensures .0)

@@ -8,8 +8,8 @@ use Rattle.records.specs.Limits.{halfLimit}
 use Rattle.records.specs.Pieces.{Run, done, mapRun, Verdict, fine, refused, judge, reading, blocks}
 use Rattle.grammar.specs.Function.{headAt, blockAt}
 use Rattle.keeping.specs.Place.{fullThen, readSize, readWords, readEntries}
-use Rattle.passes.specs.declared.full.Written.{Written}
-use Rattle.passes.specs.declared.full.Written.the-variants.{All, Refused}
+use Rattle.full.specs.declared.Written.{Written}
+use Rattle.full.specs.declared.Written.the-variants.{All, Refused}
 
 -- The pieces of a text, and what questions 20 and 21 and the readers say of them, in arrays of those lengths.
 abbrev pub pieces : List ℕ → Run (List ℕ)

@@ -2,38 +2,27 @@
 -- A step of the loop is one unfolding of `blocks` and of `judge`, and each piece is written where the last ended.
 -- Assumes nothing.
 use mathlib.Core.Path.{_≡_, refl, sym, ap, _∙_}
-use mathlib.Core.Bool.{Bool, true, false}
 use mathlib.Core.List.{List, [], _∷_, _++_, append-nil}
 use Prim.Native.Nat.{ℕ, _+_, _-_, _*_, _≤_}
 use native.Mathlib.Nat.{add-zero, zero-add}
 use native.Mathlib.Omega.{arith}
-use lib.Dec.{leb}
-use borrow.Author.Tests.{leb-true}
 use lib.ListN.{length, take, drop, set, replicate, length-drop, take-append-drop}
 use lib.Seq.{drop-drop}
 use Rattle.records.specs.Words.{pack}
 use Rattle.records.specs.Pieces.{head, badHead, block, tail, badBlock, done, stop, item, Verdict, fine, refused, textAsked, reading, blocks, leave, left, count, refusedAt, pad}
-use Rattle.theorem_edits.specs.Law.{Grammar, blocks-block, blocks-tail, blocks-bad}
-use Rattle.theorem_edits.specs.Programs.{grammar}
-use Rattle.grammar.specs.Body.{parseHead, parseBlock}
+use Rattle.theorem_edits.specs.Law.{blocks-block, blocks-tail, blocks-bad}
 use Rattle.grammar.specs.Function.{headAt, blockAt, readingOf}
-use Rattle.theorem_edits.specs.Again.{block-moves}
+use Rattle.theorem_edits.specs.Again.{laws}
 use Rattle.rooms.specs.Rooms.{roomOf, afterRoom}
 use Rattle.keeping.specs.Place.{fullThen, readSize, readWords, readEntries}
 use Rattle.rooms.specs.declared.Room.the-variants.{Fits}
-use Rattle.rooms.proofs.Judge.{Fitting, fitting}
+use Rattle.rooms.proofs.Judge.{Fitting, fitting, decide}
 use Rattle.keeping.proofs.Place.{words-snoc, entries-snoc, entries-length}
 use Rattle.keeping.proofs.Final.{Put, put-first, put-next, put-taken, full-left, full-text, full-is}
-use Rattle.passes.proofs.Again.{ReadFull, full-first, full-more, full-no-words, full-no-entry, full-refuses, full-all}
-use Rattle.passes.specs.Parts.{Within, Stands}
-use Rattle.passes.specs.Full.{pieces, said, Come, Whole, Stopped, Ended}
-use Rattle.passes.specs.declared.full.Written.{Written}
-use Rattle.passes.proofs.Stretch.{decide}
-
--- The readers of one piece have what demand 3 asks of them.
-pub laws : Grammar headAt blockAt
-unfolding headAt blockAt
-laws = grammar parseHead parseBlock block-moves
+use Rattle.full.proofs.Steps.{ReadFull, full-first, full-more, full-no-words, full-no-entry, full-refuses, full-all}
+use Rattle.directory.specs.Stretch.{Within, Stands}
+use Rattle.full.specs.Full.{pieces, said, Come, Whole, Stopped, Ended}
+use Rattle.full.specs.declared.Written.{Written}
 
 -- the head
 head-is : (text : List ℕ) (e : ℕ) (ws : List ℕ) → headAt text ≡ head e ws → pieces text ≡ item e ws (blocks headAt blockAt (drop e text))
@@ -221,12 +210,3 @@ come-own text W D i pos at words dir c = rw (c .long-words, c .long-dir) c
 
 pub ended-as : (text : List ℕ) (W W2 D D2 : ℕ) (words dir : List ℕ) (r : Written) → W2 ≡ W → D2 ≡ D → Ended text W2 D2 words dir r → Ended text W D words dir r
 ended-as text W W2 D D2 words dir r e f h = rw (← e, ← f) h
-
--- question 1
-pub not-long : (text : List ℕ) → fine ≡ textAsked text → length text ≤ 16777216
-unfolding textAsked
-not-long text h = go (leb (length text) 16777216) refl
-  where
-    go : (b : Bool) → leb (length text) 16777216 ≡ b → length text ≤ 16777216
-    go true t = leb-true (length text) 16777216 t
-    go false t = let w : fine ≡ refused 1 16777216 = rw (textAsked, t) at h in let z : _≡_ {A = ℕ} 0 1 = cc in absurd (omega arith)

@@ -3,10 +3,11 @@ use mathlib.Core.Path.{sym, ap, _∙_}
 use lib.ListN.{drop}
 use borrow.Rule.Slice.PartMut.{mid-len}
 use Rattle.grammar.specs.Function.{blockAt}
-use Rattle.passes.proofs.Stretch.{to-end, block-in}
+use Rattle.directory.proofs.Stretch.{to-end}
+use Rattle.blocks.proofs.PartLaws.{block-in}
 use borrow.Author.Needs.{needs}
-use Rattle.passes.proofs.parts.block_in.Statement.{statement}
-use Rattle.passes.proofs.parts.block_in.Tie as tie
+use Rattle.blocks.proofs.block_in.Statement.{statement}
+use Rattle.blocks.proofs.block_in.Tie as tie
 
 returns : tie.Need-returns
 returns c =

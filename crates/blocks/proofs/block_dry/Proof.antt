@@ -2,10 +2,11 @@
 use mathlib.Core.Path.{sym, ap}
 use lib.ListN.{drop}
 use Rattle.grammar.specs.Function.{blockAt}
-use Rattle.passes.proofs.Stretch.{to-end, block-dry}
+use Rattle.directory.proofs.Stretch.{to-end}
+use Rattle.blocks.proofs.PartLaws.{block-dry}
 use borrow.Author.Needs.{needs}
-use Rattle.passes.proofs.parts.block_dry.Statement.{statement}
-use Rattle.passes.proofs.parts.block_dry.Tie as tie
+use Rattle.blocks.proofs.block_dry.Statement.{statement}
+use Rattle.blocks.proofs.block_dry.Tie as tie
 
 returns : tie.Need-returns
 returns c =

@@ -1,10 +1,10 @@
 -- The stretch lent is the words from `word` up to `to`, so only these change.
 use mathlib.Core.Path.{refl, _∙_}
 use borrow.Rule.Slice.PartMut.{mid-len}
-use Rattle.passes.proofs.Stretch.{head-in}
+use Rattle.head.proofs.PartLaws.{head-in}
 use borrow.Author.Needs.{needs}
-use Rattle.passes.proofs.parts.head_in.Statement.{statement}
-use Rattle.passes.proofs.parts.head_in.Tie as tie
+use Rattle.head.proofs.head_in.Statement.{statement}
+use Rattle.head.proofs.head_in.Tie as tie
 
 returns : tie.Need-returns
 returns c =

@@ -1,10 +1,10 @@
 // The full reading, piece by piece: each is written where it stays.
-use crate::parts::block_in;
-use crate::parts::head_in;
+use blocks::block_in;
 use directory::arrays::put_entry;
 use directory::pieces::Piece;
 use directory::pieces::Size;
 use directory::pieces::Spot;
+use head::head_in;
 use rooms::Lent;
 use rooms::ask;
 use texts::Verdict;
@@ -12,7 +12,7 @@ ghost use Prim.Native.Nat.{_≤_};
 ghost use lib.ListN.{length};
 ghost use Rattle.records.specs.Limits.{textLimit};
 ghost use Rattle.lexer.specs.Table.{Classes};
-ghost use Rattle.passes.specs.Full.{Come, Ended};
+ghost use Rattle.full.specs.Full.{Come, Ended};
 
 // All pieces, their number and that of their words; or a refusal, its number and its place.
 pub enum Written {
