@@ -34,11 +34,13 @@ impl Parser
         Ok(val)
     }
 
-    /// 15: a number from low to high.
+    /// 15: a number from low to high, asked behind its digits, at the first of them.
     fn ask_int(&mut self, low: i128, high: i128) -> Result<i128, ParseError>
     {
+        let first = self.input.checkpoint();
         let n = self.input.parse_int(10)?;
         if n < low || high < n {
+            self.input.restore(first);
             return self.input.parse_error("question 15");
         }
         Ok(n)

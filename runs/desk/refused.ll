@@ -24,5 +24,8 @@ define void @accent() { ; é inside
 }
 define{i8,i8} @close(){
   ret {i8,i8} undef}
+define void @wide(i8 %n, [0099999999999999999999 x i8]* %p) {
+  ret void
+}
 define void @open() {
   ret void

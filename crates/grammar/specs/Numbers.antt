@@ -9,9 +9,9 @@ use lib.ListN.{length}
 use Rattle.program.specs.Bytes.{byte}
 use Rattle.program.specs.Choice.{pick, test}
 use Rattle.program.specs.Class.{classOf, inside, isDigit, isHex}
-use Rattle.program.specs.Prog.{Prog, ret, scan, _>>=_}
+use Rattle.program.specs.Prog.{Prog, ret, fail, scan, _>>=_}
 use Rattle.records.specs.Questions.{qDigit, qLiteral, qNumber, qDecimal}
-use Rattle.grammar.specs.Lexer.{refuse, byteIf, isEmpty}
+use Rattle.grammar.specs.Lexer.{refuse, place, byteIf, isEmpty}
 
 -- "A number begins with a digit; later underscores are passed over."
 unfoldable pub digitStep : ℕ → ℕ → Option ℕ
@@ -30,13 +30,14 @@ unfoldable pub countDigits : List ℕ → ℕ
 countDigits [] = 0
 countDigits (x ∷ r) = pick (eqb x (byte "_")) 0 1 + countDigits r
 
-unfoldable pub numberOf : ℕ → ℕ → List ℕ → Prog ℕ
-numberOf lo hi [] = refuse qDigit
-numberOf lo hi (x ∷ r) = elim (leb lo (valueOf 0 (x ∷ r)) && leb (valueOf 0 (x ∷ r)) hi) [ true ↦ ret (valueOf 0 (x ∷ r)) | false ↦ refuse qNumber ]
+-- what the digits from place i on write
+unfoldable pub numberOf : ℕ → ℕ → ℕ → List ℕ → Prog ℕ
+numberOf lo hi i [] = refuse qDigit
+numberOf lo hi i (x ∷ r) = elim (leb lo (valueOf 0 (x ∷ r)) && leb (valueOf 0 (x ∷ r)) hi) [ true ↦ ret (valueOf 0 (x ∷ r)) | false ↦ fail qNumber i ]
 
--- `parse_int(10)`: question 4, and question 15 behind the digits
+-- `parse_int(10)`: question 4; question 15 is asked behind the digits. M-105: "Its place becomes the first digit."
 unfoldable pub parseInt : ℕ → ℕ → Prog ℕ
-parseInt lo hi = digits >>= numberOf lo hi
+parseInt lo hi = place >>= λ i. (digits >>= numberOf lo hi i)
 
 -- Integers: "two words, two's complement of 128 bits, high first".
 abbrev pub halves : ℕ → List ℕ

@@ -121,13 +121,13 @@ passes-parens = passes-then eatWs (λ _. byteIf 40 (balanced 40 41) (refuse 3)) 
 
 -- a number has a digit
 pub passes-int : (lo hi : ℕ) → Passes 1 (parseInt lo hi)
-unfolding run parseInt digits numberOf _>>=_
+unfolding run parseInt place digits numberOf _>>=_
 passes-int lo hi = record { over = λ i j s a e. go i j (scanLen digitStep 0 s) s a (take (scanLen digitStep 0 s) s) refl e }
   where
-    go : (i j n : ℕ) (s : List ℕ) (a : ℕ) (w : List ℕ) → take n s ≡ w → run (numberOf lo hi w) (i + n) (drop n s) ≡ ok a j → i + 1 ≤ j
+    go : (i j n : ℕ) (s : List ℕ) (a : ℕ) (w : List ℕ) → take n s ≡ w → run (numberOf lo hi i w) (i + n) (drop n s) ≡ ok a j → i + 1 ≤ j
     go i j n s a [] t e = omega (arith, passes-refuse 1 4 .over (i + n) j (drop n s) a e)
     go i j zero s a (x ∷ w) t e = absurd (let z : _≡_ {A = ℕ} 0 1 = cc in omega arith)
-    go i j (suc n) s a (x ∷ w) t e = omega (arith, passes-any (numberOf lo hi (x ∷ w)) .over (i + suc n) j (drop (suc n) s) a e)
+    go i j (suc n) s a (x ∷ w) t e = omega (arith, passes-any (numberOf lo hi i (x ∷ w)) .over (i + suc n) j (drop (suc n) s) a e)
 
 take-short : (n : ℕ) (s : List ℕ) → length (take n s) ≤ n
 take-short zero s = omega arith

@@ -11,9 +11,9 @@ use lib.Dec.{leb, eqb}
 use borrow.Author.Tests.{le-leb, lt-leb, leb-true, leb-false, eq-eqb, ne-eqb}
 use Rattle.program.specs.Choice.{pick}
 use Rattle.program.specs.Class.{classOf}
-use Rattle.program.specs.Prog.{ret, ok, no-at, run, _>>=_, scanLen}
+use Rattle.program.specs.Prog.{ret, fail, ok, no-at, run, _>>=_, scanLen}
 use Rattle.program.specs.Local.{scanLen-le}
-use Rattle.grammar.specs.Lexer.{refuse}
+use Rattle.grammar.specs.Lexer.{refuse, place}
 use Rattle.grammar.specs.Numbers.{digitStep, digits, valueOf, numberOf, parseInt}
 use Rattle.records.specs.Limits.{numberLimit}
 use Rattle.lexer.specs.Step.{stepCode, taken}
@@ -82,28 +82,28 @@ pub count-out : (text : List ℕ) (at i q : ℕ) (val : Val) → length text ≤
 unfolding valueOf
 count-out text at i q val h n = record { behind = sym (n .place ∙ scan-out digitStep text i q h); worth = n .means ∙ ap capped (sym (n .worth ∙ ap (valueOf (n .acc)) (taken-out text i q h))) }
 
--- ---- a number from lo to hi
-module _ (lo hi i : ℕ) (r : List ℕ) where
-  number-run : (x : ℕ) (l : List ℕ) (z : Bool) → (leb lo (valueOf 0 (x ∷ l)) && leb (valueOf 0 (x ∷ l)) hi) ≡ z → run (numberOf lo hi (x ∷ l)) i r ≡ run (elim z [ true ↦ ret (valueOf 0 (x ∷ l)) | false ↦ refuse 15 ]) i r
+-- ---- a number from lo to hi, whose first digit stands at `at`
+module _ (lo hi at i : ℕ) (r : List ℕ) where
+  number-run : (x : ℕ) (l : List ℕ) (z : Bool) → (leb lo (valueOf 0 (x ∷ l)) && leb (valueOf 0 (x ∷ l)) hi) ≡ z → run (numberOf lo hi at (x ∷ l)) i r ≡ run (elim z [ true ↦ ret (valueOf 0 (x ∷ l)) | false ↦ fail 15 at ]) i r
   unfolding numberOf
-  number-run x l z e = ap (λ (y : Bool). run (elim y [ true ↦ ret (valueOf 0 (x ∷ l)) | false ↦ refuse 15 ]) i r) e
+  number-run x l z e = ap (λ (y : Bool). run (elim y [ true ↦ ret (valueOf 0 (x ∷ l)) | false ↦ fail 15 at ]) i r) e
 
-  number-low : (l : List ℕ) → (l ≡ [] → ⊥) → valueOf 0 l < lo → run (numberOf lo hi l) i r ≡ no-at 15 i
-  unfolding run refuse
+  number-low : (l : List ℕ) → (l ≡ [] → ⊥) → valueOf 0 l < lo → run (numberOf lo hi at l) i r ≡ no-at 15 at
+  unfolding run
   number-low [] n h = absurd (n refl)
   number-low (d ∷ l) n h = number-run d l false (rw (lt-leb _ _ h))
 
-  number-high : (l : List ℕ) → (l ≡ [] → ⊥) → lo ≤ valueOf 0 l → hi < valueOf 0 l → run (numberOf lo hi l) i r ≡ no-at 15 i
-  unfolding run refuse
+  number-high : (l : List ℕ) → (l ≡ [] → ⊥) → lo ≤ valueOf 0 l → hi < valueOf 0 l → run (numberOf lo hi at l) i r ≡ no-at 15 at
+  unfolding run
   number-high [] n h k = absurd (n refl)
   number-high (d ∷ l) n h k = number-run d l false (rw (le-leb _ _ h, lt-leb _ _ k))
 
-  number-fits : (l : List ℕ) → (l ≡ [] → ⊥) → lo ≤ valueOf 0 l → valueOf 0 l ≤ hi → run (numberOf lo hi l) i r ≡ ok (valueOf 0 l) i
+  number-fits : (l : List ℕ) → (l ≡ [] → ⊥) → lo ≤ valueOf 0 l → valueOf 0 l ≤ hi → run (numberOf lo hi at l) i r ≡ ok (valueOf 0 l) i
   unfolding run
   number-fits [] n h k = absurd (n refl)
   number-fits (d ∷ l) n h k = number-run d l true (rw (le-leb _ _ h, le-leb _ _ k))
 
-  number-none : (l : List ℕ) → l ≡ [] → run (numberOf lo hi l) i r ≡ no-at 4 i
+  number-none : (l : List ℕ) → l ≡ [] → run (numberOf lo hi at l) i r ≡ no-at 4 i
   unfolding run numberOf refuse
   number-none l e = rw e
 
@@ -113,32 +113,32 @@ take-some (suc n) [] h k e = omega arith
 take-some (suc n) (x ∷ s) h k e = let z : _≡_ {A = ℕ} 0 1 = cc in omega arith
 
 module _ (text : List ℕ) (lo hi at i : ℕ) (e : i ≡ at + scanLen digitStep 0 (drop at text)) where
-  behind : run (parseInt lo hi) at (drop at text) ≡ run (numberOf lo hi (taken digitStep 0 (drop at text))) i (drop i text)
-  unfolding parseInt digits _>>=_
-  behind = scan-run digitStep 0 (numberOf lo hi) text at ∙ ap (λ (j : ℕ). run (numberOf lo hi (taken digitStep 0 (drop at text))) j (drop j text)) (sym e)
+  behind : run (parseInt lo hi) at (drop at text) ≡ run (numberOf lo hi at (taken digitStep 0 (drop at text))) i (drop i text)
+  unfolding run parseInt place digits _>>=_
+  behind = scan-run digitStep 0 (numberOf lo hi at) text at ∙ ap (λ (j : ℕ). run (numberOf lo hi at (taken digitStep 0 (drop at text))) j (drop j text)) (sym e)
 
   pub no-digits : i ≡ at → run (parseInt lo hi) at (drop at text) ≡ no-at 4 at
   no-digits h =
       let z : scanLen digitStep 0 (drop at text) ≡ 0 = omega arith in
-      behind ∙ number-none lo hi i (drop i text) (taken digitStep 0 (drop at text)) (ap (λ (n : ℕ). take n (drop at text)) z) ∙ ap (no-at 4) h
+      behind ∙ number-none lo hi at i (drop i text) (taken digitStep 0 (drop at text)) (ap (λ (n : ℕ). take n (drop at text)) z) ∙ ap (no-at 4) h
 
   module _ (h : i ≡ at → ⊥) where
     nonempty : taken digitStep 0 (drop at text) ≡ [] → ⊥
     nonempty = take-some (scanLen digitStep 0 (drop at text)) (drop at text) (λ z. h (omega arith)) (scanLen-le digitStep 0 (drop at text))
 
-    pub too-low : valueOf 0 (taken digitStep 0 (drop at text)) < lo → run (parseInt lo hi) at (drop at text) ≡ no-at 15 i
-    too-low l = behind ∙ number-low lo hi i (drop i text) (taken digitStep 0 (drop at text)) nonempty l
+    pub too-low : valueOf 0 (taken digitStep 0 (drop at text)) < lo → run (parseInt lo hi) at (drop at text) ≡ no-at 15 at
+    too-low l = behind ∙ number-low lo hi at i (drop i text) (taken digitStep 0 (drop at text)) nonempty l
 
-    pub too-high : lo ≤ valueOf 0 (taken digitStep 0 (drop at text)) → hi < valueOf 0 (taken digitStep 0 (drop at text)) → run (parseInt lo hi) at (drop at text) ≡ no-at 15 i
-    too-high l m = behind ∙ number-high lo hi i (drop i text) (taken digitStep 0 (drop at text)) nonempty l m
+    pub too-high : lo ≤ valueOf 0 (taken digitStep 0 (drop at text)) → hi < valueOf 0 (taken digitStep 0 (drop at text)) → run (parseInt lo hi) at (drop at text) ≡ no-at 15 at
+    too-high l m = behind ∙ number-high lo hi at i (drop i text) (taken digitStep 0 (drop at text)) nonempty l m
 
     pub fits : (v : ℕ) → v ≡ valueOf 0 (taken digitStep 0 (drop at text)) → lo ≤ v → v ≤ hi → run (parseInt lo hi) at (drop at text) ≡ ok v i
-    fits v w l m = behind ∙ number-fits lo hi i (drop i text) (taken digitStep 0 (drop at text)) nonempty (rw w at l) (rw w at m) ∙ ap (λ (u : ℕ). ok u i) (sym w)
+    fits v w l m = behind ∙ number-fits lo hi at i (drop i text) (taken digitStep 0 (drop at text)) nonempty (rw w at l) (rw w at m) ∙ ap (λ (u : ℕ). ok u i) (sym w)
 
     -- over 64 bits
-    pub too-far : numberLimit < valueOf 0 (taken digitStep 0 (drop at text)) → hi ≤ numberLimit → run (parseInt lo hi) at (drop at text) ≡ no-at 15 i
+    pub too-far : numberLimit < valueOf 0 (taken digitStep 0 (drop at text)) → hi ≤ numberLimit → run (parseInt lo hi) at (drop at text) ≡ no-at 15 at
     too-far o m = go (leb lo (valueOf 0 (taken digitStep 0 (drop at text)))) refl
       where
-        go : (b : Bool) → leb lo (valueOf 0 (taken digitStep 0 (drop at text))) ≡ b → run (parseInt lo hi) at (drop at text) ≡ no-at 15 i
+        go : (b : Bool) → leb lo (valueOf 0 (taken digitStep 0 (drop at text))) ≡ b → run (parseInt lo hi) at (drop at text) ≡ no-at 15 at
         go true t = too-high (leb-true _ _ t) (omega arith)
         go false t = too-low (leb-false _ _ t)

@@ -70,7 +70,7 @@ fn digits_at(classes: &[u8; 256], text: &[u8], at: usize) -> Digits
     Digits { at: i, val }
 }
 
-// A number from lo to hi.
+// A number from lo to hi; one outside is refused at its first digit.
 pub fn parse_int(classes: &[u8; 256], text: &[u8], p: Parsed, lo: u64, hi: u64) -> Num
     requires { ⌜ Classes (now classes) ⌝ }
     ensures { λ r. ⌜ Gives (parseInt lo hi) (r .v) (now (text .entry)) p (r .p) ⌝ }
@@ -86,30 +86,22 @@ pub fn parse_int(classes: &[u8; 256], text: &[u8], p: Parsed, lo: u64, hi: u64) 
                     v: 0,
                 };
             }
+            let outside = Parsed::Refused(records::Q_NUMBER, at);
             let val = r.val;
             match val {
                 Val::Exact(v) => {
                     if v < lo {
-                        return Num {
-                            p: Parsed::Refused(records::Q_NUMBER, i),
-                            v: 0,
-                        };
+                        return Num { p: outside, v: 0 };
                     }
                     if hi < v {
-                        return Num {
-                            p: Parsed::Refused(records::Q_NUMBER, i),
-                            v: 0,
-                        };
+                        return Num { p: outside, v: 0 };
                     }
                     Num {
                         p: Parsed::Ok(Cursor { at: i, w: c.w }),
                         v,
                     }
                 }
-                Val::Over => Num {
-                    p: Parsed::Refused(records::Q_NUMBER, i),
-                    v: 0,
-                },
+                Val::Over => Num { p: outside, v: 0 },
             }
         }
         Parsed::Refused(e, q) => Num {

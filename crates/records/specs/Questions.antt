@@ -46,7 +46,7 @@ qClosed = 13
 abbrev pub qEscape : ℕ  -- Is the escape valid?
 qEscape = 14
 
--- (15: behind the digits; those behind `#` are skipped unjudged)
+-- (15: at the first digit, as M-105 has it; those behind `#` are skipped unjudged)
 abbrev pub qNumber : ℕ  -- Integer width 1 to 8,388,608, index below 2^32, other numbers below 2^64?
 qNumber = 15
 

@@ -3,28 +3,28 @@
 use mathlib.Core.Bool.{Bool, true, false, _&&_}
 use mathlib.Core.List.{List, [], _∷_}
 use mathlib.Core.Option.{Option, none, some}
-use Prim.Native.Nat.{ℕ}
+use Prim.Native.Nat.{ℕ, _≤_}
 use lib.Dec.{leb, eqb}
 use lib.ListN.{length}
 use Rattle.program.specs.Class.{inside}
 use Rattle.program.specs.Prog.{ret}
 use Rattle.grammar.specs.Lexer.{refuse}
 use Rattle.grammar.specs.Numbers.{digits, valueOf, numberOf, parseInt, largest, parseHexFloat, parseF0x, Numeral, readSign, readExponent, behindPoint, readNumeric, isFloat, isValid, floatOf, signed, Literal, float, integerOf, decimalOf, literalOf, parseNumeral}
-use Rattle.theorem_refusals.specs.Inside.{Inside, scans, Any, then, done, either}
-use Rattle.theorem_refusals.specs.Lexer.{in-refuse, in-byteIf}
+use Rattle.theorem_refusals.specs.Inside.{Inside, scans, Any, then-with, then, done, fails, either}
+use Rattle.theorem_refusals.specs.Lexer.{in-refuse, in-place, in-byteIf}
 
 in-digits : {n : ℕ} → Inside n Any digits
 unfolding digits
 in-digits = scans λ w. done
 
-in-numberOf : {n : ℕ} (lo hi : ℕ) (w : List ℕ) → Inside n Any (numberOf lo hi w)
+in-numberOf : {n : ℕ} (lo hi i : ℕ) → i ≤ n → (w : List ℕ) → Inside n Any (numberOf lo hi i w)
 unfolding numberOf
-in-numberOf lo hi [] = in-refuse 4 tt
-in-numberOf lo hi (x ∷ w) = either (leb lo (valueOf 0 (x ∷ w)) && leb (valueOf 0 (x ∷ w)) hi) done (in-refuse 15 tt)
+in-numberOf lo hi i l [] = in-refuse 4 tt
+in-numberOf lo hi i l (x ∷ w) = either (leb lo (valueOf 0 (x ∷ w)) && leb (valueOf 0 (x ∷ w)) hi) done (fails 15 i tt l)
 
 pub in-parseInt : {n : ℕ} (lo hi : ℕ) → Inside n Any (parseInt lo hi)
 unfolding parseInt
-in-parseInt lo hi = then in-digits (in-numberOf lo hi)
+in-parseInt lo hi = then-with in-place λ i l. then in-digits (in-numberOf lo hi i l)
 
 pub in-parseHexFloat : {n : ℕ} → Inside n Any parseHexFloat
 unfolding parseHexFloat

@@ -34,7 +34,7 @@ fn answers() {
     let output = run(ORACLE, &[], &input);
     assert!(output.status.success());
     let expected = "A 3c0a000100000003,n66,100000000000001,3d00000100000003,n30,3400000000000001\n\
-        R 5 0\nX 15 2\nX 2 0\n\
+        R 5 0\nX 15 1\nX 2 0\n\
         A 3c0a000100000003,n66,100000000000001,3d00000100000006,n30,3401000200000004,400000000000001,1300000000000002,q\n";
     assert_eq!(String::from_utf8_lossy(&output.stdout), expected);
 }
@@ -44,7 +44,7 @@ fn inputs_that_abort_or_panic_the_rust() {
     let deep = "{".repeat(100_000);
     let long = format!("i{} @f(){{}}", "9".repeat(100));
     let output = run(ORACLE, &["-"], &format!("{}\n{}\n", hex(&deep), hex(&long)));
-    assert_eq!(String::from_utf8_lossy(&output.stdout), "X 16 64\nX 15 101\n");
+    assert_eq!(String::from_utf8_lossy(&output.stdout), "X 16 64\nX 15 1\n");
 }
 
 /// A message, exit status 2, and nothing on standard output.

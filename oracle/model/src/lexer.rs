@@ -115,8 +115,10 @@ impl<'a> Cursor<'a> {
         words.iter().position(|w| self.keyword(w))
     }
 
-    /// Questions 4 and 15: a number from low to high, underscores passed over.
+    /// Questions 4 and 15, each at the number's first place: a number from low to high,
+    /// underscores passed over.
     pub fn number(&mut self, low: u64, high: u64) -> Read<u64> {
+        let first = self.at;
         if !self.peek().is_some_and(|b| b.is_ascii_digit()) {
             return self.refuse(4);
         }
@@ -130,7 +132,7 @@ impl<'a> Cursor<'a> {
             self.at += 1;
         }
         if value < u128::from(low) || u128::from(high) < value {
-            return self.refuse(15);
+            return Err(Refusal { number: 15, place: first });
         }
         Ok(value as u64)
     }

@@ -35,7 +35,7 @@ fn value_word(literal: &str, at: usize) -> u64 {
 #[test]
 fn widths_and_integers() {
     assert!(records(b"i8388608 @f(){}").is_ok());
-    assert_eq!(refused("i8388609 @f(){}"), (15, 8));
+    assert_eq!(refused("i8388609 @f(){}"), (15, 1));
     assert_eq!(value_word("170141183460469231731687303715884105727", 0), u64::MAX >> 1);
     assert_eq!(value_word("170141183460469231731687303715884105727", 1), u64::MAX);
     assert_eq!(value_word("-170141183460469231731687303715884105728", 0), 1 << 63);

@@ -174,10 +174,24 @@ const HEADS: &[&str] = &[
     "void @f(){%x=alloca i8 addrspace: ret void}", "void @f(){ret void addrspace: ret void}",
 ];
 
+/// Edits, older and newer text: a number out of its range in each piece.
+pub const EDITS: &[(&str, &str)] = &[
+    ("void @f(i8 %x){ret void}", "void @f(i0 %x){ret void}"),
+    ("void @f(){br label %a a: ret i8 1}", "void @f(){br label %a a: ret i008388609_ 1}"),
+    ("void @f(){ret void}", "void @f(){ret void %x = load i8, ptr %p, align 0018446744073709551616}"),
+];
+
 /// Questions 2, 15, 17 and 18, which the Rust does not ask.
 const OUTSIDE: &[&str] = &[
     "void @f(){}é", "void @é(){}", "i0 @f(){}", "i0_ @f(){}", "i8388609 @f(){}", "i4294967297 @f(){}",
-    "i340282366920938463463374607431768211457 @f(){}", "void (i0)* @f(){}", "void @f(i0){}",
+    "i340282366920938463463374607431768211457 @f(){}", "void (i0)* @f(){}", "void @f(i0){}", "i00 @f(){}",
+    "i_0 @f(){}", "i 0 @f(){}", "i0__0 @f(){}", "i0008388609 @f(){}", "[ 18446744073709551616_ x i8] @f(){}",
+    "< ;\n018446744073709551616 x i8> @f(){}", "cc 0_18446744073709551616 void @f(){}",
+    "#0018446744073709551616 void @f(){}", "void @f() align 0018446744073709551616 {}",
+    "void @f(){%x = extractvalue i8 1, 0_4294967296_}",
+    "void @f(){call void @g(i8 align 018446744073709551616 1)}",
+    "void @f(){call void (i8 align 18446744073709551616) @g()}",
+    "void @f(){store i8 1, ptr %p, align 1, align 0018446744073709551616}",
     "[18446744073709551616 x i8] @f(){}", "<18446744073709551616 x i8> @f(){}",
     "cc 18446744073709551615 void @f(){}", "cc 18446744073709551616 void @f(){}",
     "align 18446744073709551616 void @f(){}", "#18446744073709551616 void @f(){}",

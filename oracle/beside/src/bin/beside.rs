@@ -13,20 +13,45 @@ use std::process::ExitCode;
 use texts::rng::Rng;
 use texts::{clang, cover, maker, mutate, short, Texts};
 
+/// How many calls were answered with each number; 0 is accepted.
+#[derive(Default)]
+struct Answers(BTreeMap<u64, u64>);
+
+impl Answers {
+    fn count(&mut self, number: u64) {
+        *self.0.entry(number).or_default() += 1;
+    }
+
+    fn all(&self) -> u64 {
+        self.0.values().sum()
+    }
+
+    fn add(&mut self, other: Answers) {
+        other.0.into_iter().for_each(|(n, k)| *self.0.entry(n).or_default() += k);
+    }
+
+    fn show(&self, what: &str) -> String {
+        let accepted = self.0.get(&0).unwrap_or(&0);
+        let refused: Vec<String> = self.0.range(1..).map(|(n, k)| format!("{n}: {k}")).collect();
+        let refused = refused.join(", ");
+        format!("{} {what}, {accepted} accepted; refused by number: {refused}\n", self.all())
+    }
+}
+
 #[derive(Default)]
 struct Report {
-    texts: u64,
-    accepted: u64,
-    numbers: BTreeMap<u64, u64>,
+    texts: Answers,
     rooms: u64,
-    /// Calls and how many of them were accepted.
-    edits: (u64, u64),
-    altered: (u64, u64),
+    edits: Answers,
+    altered: Answers,
     wrong: Vec<String>,
 }
 
 /// So many differences are shown; more would be the same ones again.
 const SHOWN: usize = 20;
+
+/// What fixed edits are lent beyond the exact fit of the older text.
+const SPARES: [(usize, usize); 2] = [(0, 0), (9, 4)];
 
 /// One text in so many is read in every room.
 const ROOMS: u64 = 16;
@@ -39,10 +64,8 @@ impl Report {
     }
 
     fn text(&mut self, port: &dyn Port, text: &[u8]) {
-        self.texts += 1;
         match check::full(port, text) {
-            Ok(outcome) if outcome.answer.number == 0 => self.accepted += 1,
-            Ok(outcome) => *self.numbers.entry(outcome.answer.number).or_default() += 1,
+            Ok(outcome) => self.texts.count(outcome.answer.number),
             Err(why) => {
                 self.wrong(text, &why);
                 self.smaller(port, text);
@@ -75,8 +98,9 @@ impl Report {
 
     /// A re-reading beside the model and beside the reader's own full reading.
     fn edit(&mut self, port: &dyn Port, call: &reread::Call) {
-        let accepted = self.call(port, call);
-        self.edits = (self.edits.0 + 1, self.edits.1 + accepted);
+        if let Some(number) = self.call(port, call) {
+            self.edits.count(number);
+        }
         if let Err(why) = reread::as_full(port, call) {
             self.wrong(&call.older, &format!("{why}\n  {call:?}"));
         }
@@ -87,45 +111,36 @@ impl Report {
         let Some(mut call) = reread::edit(rng, older) else { return };
         self.edit(port, &call);
         reread::alter(rng, &mut call);
-        let accepted = self.call(port, &call);
-        self.altered = (self.altered.0 + 1, self.altered.1 + accepted);
+        if let Some(number) = self.call(port, &call) {
+            self.altered.count(number);
+        }
     }
 
-    /// 1 if the call was accepted.
-    fn call(&mut self, port: &dyn Port, call: &reread::Call) -> u64 {
+    /// The number of the answer; none if it is wrong.
+    fn call(&mut self, port: &dyn Port, call: &reread::Call) -> Option<u64> {
         match reread::check(port, call) {
-            Ok(number) => u64::from(number == 0),
+            Ok(number) => Some(number),
             Err(why) => {
                 self.wrong(&call.older, &format!("{why}\n  {call:?}"));
-                0
+                None
             }
         }
     }
 
     fn add(&mut self, other: Report) {
-        self.texts += other.texts;
-        self.accepted += other.accepted;
-        other.numbers.into_iter().for_each(|(n, k)| *self.numbers.entry(n).or_default() += k);
+        self.texts.add(other.texts);
         self.rooms += other.rooms;
-        self.edits = (self.edits.0 + other.edits.0, self.edits.1 + other.edits.1);
-        self.altered = (self.altered.0 + other.altered.0, self.altered.1 + other.altered.1);
+        self.edits.add(other.edits);
+        self.altered.add(other.altered);
         self.wrong.extend(other.wrong);
     }
 
     fn show(&self) -> String {
         let mut out: String = self.wrong.iter().take(SHOWN).map(|w| format!("{w}\n")).collect();
-        let numbers: Vec<String> = self.numbers.iter().map(|(n, k)| format!("{n}: {k}")).collect();
-        out.push_str(&format!(
-            "{} texts, {} accepted; refused by number: {}\n",
-            self.texts,
-            self.accepted,
-            numbers.join(", ")
-        ));
+        out.push_str(&self.texts.show("texts"));
         out.push_str(&format!("{} readings in rooms around the exact fit\n", self.rooms));
-        let ((edits, kept), (altered, accepted)) = (self.edits, self.altered);
-        out.push_str(&format!(
-            "{edits} edits re-read, {kept} accepted; {altered} altered calls, {accepted} accepted\n"
-        ));
+        out.push_str(&self.edits.show("edits re-read"));
+        out.push_str(&self.altered.show("altered calls"));
         out.push_str(&format!("{} differences\n", self.wrong.len()));
         out
     }
@@ -141,7 +156,20 @@ fn fixed(port: &dyn Port) -> Report {
     big::children().iter().for_each(|text| report.text(port, text));
     // Too long for ample arrays; their records are short.
     big::longest().iter().for_each(|text| report.tried(text, rooms::one(port, text, 64, 64)));
+    if port.rereads() {
+        fixed_edits(port, &mut report);
+    }
     report
+}
+
+/// The edits that every run reads again, at the exact fit and with some room.
+fn fixed_edits(port: &dyn Port, report: &mut Report) {
+    for (older, newer) in cover::EDITS {
+        for spare in SPARES {
+            let call = reread::call(older.as_bytes(), newer.as_bytes().to_vec(), spare);
+            report.edit(port, &call.expect("an older text that is read"));
+        }
+    }
 }
 
 fn stream(port: &dyn Port, seed: u64, count: u64) -> Report {
@@ -169,7 +197,7 @@ fn edits(port: &dyn Port, seed: u64, count: u64) -> Report {
     let mut report = Report::default();
     let mut texts = Texts::new(seed);
     let mut rng = Rng::new(seed ^ 0x5bd1_e995);
-    while report.edits.0 < count && report.wrong.len() < SHOWN {
+    while report.edits.all() < count && report.wrong.len() < SHOWN {
         let (_, text) = texts.draw();
         (0..8).for_each(|_| report.edits(port, &mut rng, &text));
     }
@@ -189,8 +217,7 @@ fn half_of_bytes(port: &dyn Port, half: usize) -> Report {
     let mut report = Report::default();
     for older in FEW {
         for (i, newer) in reread::one_byte_edits(older).enumerate().filter(|(i, _)| i % 2 == half) {
-            let spare = if i % 4 < 2 { (0, 0) } else { (9, 4) };
-            match reread::call(older, newer, spare) {
+            match reread::call(older, newer, SPARES[i / 2 % 2]) {
                 Some(call) => report.edit(port, &call),
                 None => report.wrong(older, "not accepted"),
             }

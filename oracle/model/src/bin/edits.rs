@@ -4,20 +4,23 @@
 //!     OLDER NEWER WORDS DIRECTORY COUNT R NUMBER PLACE
 //!
 //! Texts are in hexadecimal, `-` for an empty one; arrays whole, hexadecimal numbers with commas between, `-` for an empty one;
-//! the other numbers decimal. Every second call has something altered: words, directory, count or texts.
+//! the other numbers decimal. First stand the fixed edits of texts/src/cover.rs; of the others every second call has something
+//! altered: words, directory, count or texts.
 
 use judge::answer::on_big_stack;
 use judge::files;
-use model::calls::{alter, edit, Call};
+use model::calls::{alter, call, edit, Call};
 use model::reparse_define;
 use std::collections::HashSet;
 use std::process::ExitCode;
 use texts::rng::Rng;
-use texts::Texts;
+use texts::{cover, Texts};
 
 /// Longer texts and arrays would make the list long and say little more.
 const LONGEST: usize = 100;
 const MOST_WORDS: usize = 60;
+/// What the fixed edits are lent beyond the exact fit of the older text.
+const ROOM: (usize, usize) = (20, 4);
 
 fn hex(bytes: &[u8]) -> String {
     if bytes.is_empty() {
@@ -44,26 +47,30 @@ fn line(call: &Call) -> String {
     );
     let (mut words, mut directory) = (call.words.clone(), call.directory.clone());
     match reparse_define(&call.older, &call.newer, &mut words, &mut directory, call.entries) {
-        Ok(r) => format!(
-            "{given} A {} {} {} {} {}",
-            r.entries,
-            r.first,
-            r.read,
-            array(&words),
-            array(&directory)
-        ),
+        Ok(r) => {
+            format!("{given} A {} {} {} {} {}", r.entries, r.first, r.read, array(&words), array(&directory))
+        }
         Err(no) => format!("{given} R {} {}", no.number, no.place),
     }
 }
 
 fn short(call: &Call) -> bool {
     let sizes = [call.older.len(), call.newer.len()];
-    sizes.iter().all(|&n| n <= LONGEST) && call.words.len() <= MOST_WORDS && call.directory.len() <= MOST_WORDS
+    sizes.iter().all(|&n| n <= LONGEST)
+        && call.words.len() <= MOST_WORDS
+        && call.directory.len() <= MOST_WORDS
 }
 
 fn list(seed: u64, count: usize) -> String {
     let (mut texts, mut rng) = (Texts::new(seed), Rng::new(seed));
     let (mut lines, mut seen) = (String::new(), HashSet::new());
+    for (older, newer) in cover::EDITS {
+        let call =
+            call(older.as_bytes(), newer.as_bytes().to_vec(), ROOM).expect("an older text that is read");
+        let line = line(&call);
+        lines.push_str(&(line.clone() + "\n"));
+        seen.insert(line);
+    }
     while seen.len() < count {
         let (_, older) = texts.draw();
         let Some(mut call) = edit(&mut rng, &older) else { continue };
