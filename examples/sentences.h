@@ -21,7 +21,7 @@ static inline const char *sentence_of(uint64_t question) {
       [ZIMLOKUR_Q_CLOSED] = "A quote, a parenthesis or a brace was opened and is not closed.",
       [ZIMLOKUR_Q_ESCAPE] = "Behind a backslash there must be two hexadecimal digits, or in a name another backslash.",
       [ZIMLOKUR_Q_NUMBER] = "The number at this place is out of range: a width is 1 to 8,388,608, an index below 2^32, any other below 2^64.",
-      [ZIMLOKUR_Q_DEPTH] = "Types or values stand inside each other here more than 64 deep.",
+      [ZIMLOKUR_Q_DEPTH] = "Types or values stand inside each other here more than 19 deep.",
       [ZIMLOKUR_Q_DECIMAL] = "This decimal has too many digits or too large an exponent: write its 64 bits as 0x and 16 hexadecimal digits.",
       [ZIMLOKUR_Q_LEFT_OUT] = "This is left out on purpose: atomicrmw, and attributes in quotes.",
       [ZIMLOKUR_Q_CHILDREN] = "One list or block has more than 65,535 parts: split it.",

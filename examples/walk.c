@@ -7,8 +7,8 @@
 
 enum { MOST_BYTES = 65536, WORDS = 2 * MOST_BYTES + 64, DIRECTORY_WORDS = MOST_BYTES + 64 };
 
-/* A piece's node, an instruction or a parameter in it, and 64 levels of types and values in that: no tree is deeper. */
-enum { MOST_LEVELS = 66 };
+/* Above types and values stand at most a block, a call and its function type. */
+enum { MOST_LEVELS = ZIMLOKUR_DEPTH_LIMIT + 3 };
 
 /* One byte more than is taken, so that a longer input shows. */
 static uint8_t input[MOST_BYTES + 1];

@@ -30,7 +30,7 @@ const LEXER: &[Change] = &[
 ];
 
 const PARSER: &[Change] = &[
-    change(1, "    input: Lexer,\n}", "    input: Lexer,\n    depth: u32,\n}"),
+    change(1, "    input: Lexer,\n}", "    input: Lexer,\n    depth: usize,\n}"),
     change(1, "Parser { input }", "Parser { input, depth: 0 }"),
     // 15
     change(

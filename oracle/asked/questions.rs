@@ -3,7 +3,7 @@
 
 /// At most so many direct children (19), and so deep (16).
 const CHILDREN: usize = 65_535;
-const DEPTH: u32 = 64;
+pub const DEPTH: usize = 19;
 
 impl Parser
 {

@@ -181,7 +181,7 @@ unfoldable pub noType : ℕ → ℕ
 noType zero = qDepth
 noType (suc d) = qType
 
--- `parse_type`, where d levels are left: "16. Is the depth at most 64? (asked before 5 and 6, at the first character)"
+-- `parse_type`, where d levels are left: question 16, "asked before 5 and 6, at the first character"
 unfoldable pub parseType : ℕ → Prog TypeOut
 parseType zero = eatWs >>= λ _. refuse qDepth
 parseType (suc d) = typeWith (noType d) (parseType d)

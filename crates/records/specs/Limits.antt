@@ -26,9 +26,9 @@ indexLimit = 4294967295
 abbrev pub numberLimit : ℕ
 numberLimit = 18446744073709551615
 
--- question 16: the deepest level of types and values
+-- question 16: the deepest level of types and values (M-108)
 abbrev pub depthLimit : ℕ
-depthLimit = 64
+depthLimit = 19
 
 -- levels below an outermost type
 abbrev pub listDepth : ℕ

@@ -50,7 +50,7 @@ qEscape = 14
 abbrev pub qNumber : ℕ  -- Integer width 1 to 8,388,608, index below 2^32, other numbers below 2^64?
 qNumber = 15
 
-abbrev pub qDepth : ℕ  -- Is the depth at most 64? (asked before 5 and 6, at the first character)
+abbrev pub qDepth : ℕ  -- Is the depth at most `depthLimit`? (asked before 5 and 6, at the first character)
 qDepth = 16
 
 abbrev pub qDecimal : ℕ  -- Is a valid decimal supported?

@@ -199,7 +199,7 @@ pub const INDEX_LIMIT: u64 = 4294967295; // question 15: the largest index
 
 pub const NUMBER_LIMIT: u64 = 18446744073709551615; // question 15: the largest other number
 
-pub const DEPTH_LIMIT: usize = 64; // question 16: the deepest level of types and values
+pub const DEPTH_LIMIT: usize = 19; // question 16: the deepest level of types and values
 
 pub const LIST_DEPTH: usize = DEPTH_LIMIT - 1; // levels below an outermost type
 

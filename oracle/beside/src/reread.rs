@@ -3,7 +3,7 @@
 use crate::check::{parse, same_array};
 use crate::lent::Lent;
 use crate::port::{Model, Port};
-pub use model::calls::{alter, call, edit, Call};
+pub use model::calls::{alter, call, edit, fixed, Call};
 
 /// Every edit of one byte: deleted, each other byte in its place, each byte before it, each behind the text.
 pub fn one_byte_edits(older: &[u8]) -> impl Iterator<Item = Vec<u8>> + '_ {

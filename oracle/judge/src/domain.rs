@@ -1,5 +1,8 @@
 //! Which texts need not be asked questions 1, 2 and 15 to 19: a quick look that is sure of its yes.
 
+/// Question 16: the deepest level that is read.
+pub use asked::parser::DEPTH;
+
 /// 01's limits on a whole text.
 pub const LENGTH: usize = 16_777_216;
 
@@ -17,10 +20,10 @@ pub fn surely_inside(text: &[u8]) -> bool {
     text.len() < 65_536 && few_openers(text) && no_forbidden(text) && small_numbers(text)
 }
 
-/// Each level of nesting has an opening byte.
+/// Each level below the first has an opening byte.
 fn few_openers(text: &[u8]) -> bool {
     let opener = |b: &&u8| matches!(b, b'(' | b'[' | b'{' | b'<');
-    text.iter().filter(opener).count() < 60
+    text.iter().filter(opener).count() < DEPTH
 }
 
 /// No quote, hence no quoted attribute or opcode, and no `atomicrmw`.

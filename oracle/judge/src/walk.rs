@@ -2,6 +2,7 @@
 //! pieces that follow each other, extents, counts of children, kinds in their slots, names that
 //! stand in the text, zeros behind.
 
+use crate::domain;
 use crate::form::{Form, Token};
 use crate::name::{decode_bytes, decode_name, is_name_byte};
 
@@ -191,12 +192,13 @@ struct Walk<'a> {
     form: &'a mut Form,
 }
 
-/// Deeper than any accepted tree, so that wrong words cannot exhaust the stack.
-const DEPTH: usize = 80;
+/// Above a type or value of the deepest level stand at most three nodes: block, call, function type. So wrong words cannot exhaust
+/// the stack.
+const DEPTH: usize = domain::DEPTH + 3;
 
 impl Walk<'_> {
     fn whole(mut self, slot: Slot) -> Result<(), String> {
-        self.node(slot, 0)?;
+        self.node(slot, 1)?;
         if self.at != self.words.len() {
             return Err(format!("the node has {} words of {}", self.at, self.words.len()));
         }

@@ -1,5 +1,6 @@
 //! The programs on good and on bad input.
 
+use judge::domain::DEPTH;
 use std::io::Write;
 use std::process::{Command, Output, Stdio};
 
@@ -44,7 +45,7 @@ fn inputs_that_abort_or_panic_the_rust() {
     let deep = "{".repeat(100_000);
     let long = format!("i{} @f(){{}}", "9".repeat(100));
     let output = run(ORACLE, &["-"], &format!("{}\n{}\n", hex(&deep), hex(&long)));
-    assert_eq!(String::from_utf8_lossy(&output.stdout), "X 16 64\nX 15 1\n");
+    assert_eq!(String::from_utf8_lossy(&output.stdout), format!("X 16 {DEPTH}\nX 15 1\n"));
 }
 
 /// A message, exit status 2, and nothing on standard output.

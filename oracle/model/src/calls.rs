@@ -2,8 +2,9 @@
 //! and texts.
 
 use crate::full::{records, Records};
-use texts::mutate;
+use judge::domain::DEPTH;
 use texts::rng::Rng;
+use texts::{cover, mutate};
 
 /// The inputs of one call.
 #[derive(Clone, Debug)]
@@ -27,6 +28,32 @@ pub fn call(older: &[u8], newer: Vec<u8>, spare: (usize, usize)) -> Option<Call>
     Some(holding(records(older).ok()?, older, newer, spare))
 }
 
+/// The fixed edits in a given room, and calls whose older records are not those of the older text.
+pub fn fixed(spare: (usize, usize)) -> (Vec<Call>, Vec<Call>) {
+    let edits =
+        cover::edits().into_iter().map(|(older, newer)| call(older.as_bytes(), newer.into_bytes(), spare));
+    (edits.collect::<Option<_>>().expect("older texts that are read"), kept_deep(spare))
+}
+
+/// A block deeper than a reading takes stands before the edit, behind it, at it: "nothing else is asked of a kept piece". The words lent
+/// are those of a text that has spaces in place of the outer braces: what older words hold decides no answer.
+fn kept_deep(spare: (usize, usize)) -> Vec<Call> {
+    let (n, braces) = (2 * DEPTH, |left: &str, right: &str| format!("{left}{{}}{right}"));
+    let deep = braces(&"{".repeat(n), &"}".repeat(n));
+    let flat = braces(&" ".repeat(n), &" ".repeat(n));
+    let before = |ty: &str, digit: &str| format!("void @f(){{ret {ty} undef a: ret i8 {digit}}}");
+    let behind = |ty: &str, digit: &str| format!("void @f(){{ret i8 {digit} a: ret {ty} undef}}");
+    let lent = |flat: String, older: String, newer: String| {
+        let call = call(flat.as_bytes(), newer.into_bytes(), spare).expect("a text that is read");
+        Call { older: older.into_bytes(), ..call }
+    };
+    vec![
+        lent(before(&flat, "1"), before(&deep, "1"), before(&deep, "2")),
+        lent(behind(&flat, "1"), behind(&deep, "1"), behind(&deep, "2")),
+        lent(behind(&flat, "1"), behind(&deep, "1"), behind(&(deep.clone() + " "), "1")),
+    ]
+}
+
 fn holding(r: Records, older: &[u8], newer: Vec<u8>, spare: (usize, usize)) -> Call {
     let entries = r.entries() as u64;
     let (mut words, mut directory) = (r.words, r.directory);
@@ -38,7 +65,7 @@ fn holding(r: Records, older: &[u8], newer: Vec<u8>, spare: (usize, usize)) -> C
 /// Something in a call altered: the rule asks less of the older records than a reading gives.
 pub fn alter(rng: &mut Rng, call: &mut Call) {
     for _ in 0..=rng.few(3) {
-        match rng.below(8) {
+        match rng.below(9) {
             0 => one_word(rng, &mut call.words),
             1 => one_word(rng, &mut call.directory),
             2 => call.entries = other_count(rng, call.entries),
@@ -46,6 +73,7 @@ pub fn alter(rng: &mut Rng, call: &mut Call) {
             4 => call.words.truncate(rng.below(call.words.len() + 1)),
             5 => call.directory.truncate(rng.below(call.directory.len() + 1)),
             6 => std::mem::swap(&mut call.older, &mut call.newer),
+            7 => deeper(rng, call),
             _ => empty_piece(rng, call),
         }
     }
@@ -84,6 +112,25 @@ fn move_border(rng: &mut Rng, call: &mut Call) {
     } else if b as u32 as u64 >= by {
         call.directory[left] = a.wrapping_add(by);
         call.directory[right] = b.wrapping_add(by << 32).wrapping_sub(by);
+    }
+}
+
+/// What both texts begin or end with is nested deeper than a reading takes, somewhere.
+fn deeper(rng: &mut Rng, call: &mut Call) {
+    let pairs = || call.older.iter().zip(&call.newer);
+    let ends = || call.older.iter().rev().zip(call.newer.iter().rev());
+    let (first, last) =
+        (pairs().take_while(|(a, b)| a == b).count(), ends().take_while(|(a, b)| a == b).count());
+    let (n, behind) = (DEPTH + 1 + rng.few(12), rng.one_in(2));
+    let common = if behind { last } else { first };
+    if common < n {
+        return;
+    }
+    let at = rng.below(common - n + 1);
+    let open = rng.pick(&[b'{', b'[', b'(', b'<']);
+    for text in [&mut call.older, &mut call.newer] {
+        let start = if behind { text.len() - common + at } else { at };
+        text[start..start + n].fill(open);
     }
 }
 

@@ -4,7 +4,7 @@ use crate::lexer::{Cursor, Read};
 use crate::tables::{FLAG_ATTRS, PAREN_ATTRS};
 
 /// At most so deep, and so many direct children.
-const DEPTH: usize = 64;
+const DEPTH: usize = 19;
 const CHILDREN: usize = 65_535;
 
 pub const PTR: u64 = 5;

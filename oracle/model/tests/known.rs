@@ -2,6 +2,7 @@
 
 use judge::answer::on_big_stack;
 use model::beside::difference;
+use model::calls::fixed;
 use model::full::records;
 use model::{parse_define, reparse_define, Refusal, Reread};
 
@@ -83,10 +84,26 @@ fn quoted_and_atomic() {
 #[test]
 fn depth() {
     let braces = |n: usize, inner: &str| format!("{}{inner}{} @f(){{}}", "{".repeat(n), "}".repeat(n));
-    assert!(records(braces(64, "").as_bytes()).is_ok());
-    assert!(records(braces(63, "i8").as_bytes()).is_ok());
-    assert_eq!(refused(&braces(64, "?")), (16, 64));
-    assert_eq!(refused(&braces(64, " i8")), (16, 65));
+    assert!(records(braces(19, "").as_bytes()).is_ok());
+    assert!(records(braces(18, "i8").as_bytes()).is_ok());
+    assert_eq!(refused(&braces(20, "")), (16, 19));
+    assert_eq!(refused(&braces(19, "?")), (16, 19));
+    assert_eq!(refused(&braces(19, " i8")), (16, 20));
+    let value = |n: usize, inner: &str| format!("void @f(){{ret i8 {}{inner}", "[i8 ".repeat(n));
+    assert_eq!(refused(&value(18, "?")), (6, 89));
+    assert_eq!(refused(&value(19, "?")), (16, 90));
+}
+
+/// A block deeper than 19 is kept before and behind an edit, and refused where it is read.
+#[test]
+fn kept_deep() {
+    let answers: Vec<_> = fixed((0, 0))
+        .1
+        .into_iter()
+        .map(|mut c| reparse_define(&c.older, &c.newer, &mut c.words, &mut c.directory, c.entries))
+        .collect();
+    let read = |entries, first, read| Ok(Reread { entries, first, read });
+    assert_eq!(answers, [read(4, 2, 1), read(4, 1, 1), Err(Refusal { number: 16, place: 45 })]);
 }
 
 /// Question 19 in each kind of node, model and asked copy alike.

@@ -1,6 +1,7 @@
 //! A text for each form of the reader and for each way to refuse: the fixed part of the sample.
 
 use crate::words::*;
+use judge::domain::DEPTH;
 
 /// Types, each by itself.
 pub const TYPES: &[&str] = &[
@@ -175,7 +176,7 @@ const HEADS: &[&str] = &[
 ];
 
 /// Edits, older and newer text: a number out of its range in each piece.
-pub const EDITS: &[(&str, &str)] = &[
+const EDITS: &[(&str, &str)] = &[
     ("void @f(i8 %x){ret void}", "void @f(i0 %x){ret void}"),
     ("void @f(){br label %a a: ret i8 1}", "void @f(){br label %a a: ret i008388609_ 1}"),
     ("void @f(){ret void}", "void @f(){ret void %x = load i8, ptr %p, align 0018446744073709551616}"),
@@ -214,18 +215,45 @@ const OUTSIDE: &[&str] = &[
 
 /// Nested to the limit and one deeper, in a type and in a value.
 fn nested(out: &mut Vec<String>) {
-    for n in [63, 64] {
+    for n in [DEPTH - 1, DEPTH] {
         let (open, close) = ("{".repeat(n), "}".repeat(n));
         out.push(format!("{open}i8{close} @f(){{}}"));
         out.push(format!("{open}{close} @f(){{}}"));
         out.push(format!("void @f(){{ret i8 {}1{}}}", "[i8 ".repeat(n), "]".repeat(n)));
         out.push(format!("void @f(){{ret i8 {} ?", "add(i8 ".repeat(n)));
+        out.push(format!("void @f(){{call {open}{close}(i8) @g(i8 1) ret void}}"));
         out.push(format!(
             "void @f(){{call i8 addrspace(1) ({}i8{}) @g()}}",
             "[1 x ".repeat(n - 1),
             "]".repeat(n - 1)
         ));
     }
+}
+
+/// Edits around the deepest level in each piece: to it, behind it, one deeper.
+fn nested_edits(out: &mut Vec<(String, String)>) {
+    let ty = |n: usize| format!("{}i8{}", "{".repeat(n), "}".repeat(n));
+    let value = |n: usize| format!("{}1{}", "[i8 ".repeat(n), "]".repeat(n));
+    let head = |n| format!("void @f({} %x){{ret void}}", ty(n));
+    let block = |n, digit| format!("void @f(){{ret {} undef a: ret i8 {digit}}}", ty(n));
+    let last = |n, digit| format!("void @f(){{ret i8 {digit} a: ret i8 {}}}", value(n));
+    let tail = |n| format!("void @f(){{ret void %x = alloca {}}}", ty(n));
+    let most = DEPTH - 1;
+    for n in [most, most + 1] {
+        out.push((head(most - 1), head(n)));
+        out.push((block(most - 1, 1), block(n, 1)));
+        out.push((last(most - 1, 1), last(n, 1)));
+        out.push((tail(most - 1), tail(n)));
+    }
+    out.push((block(most, 1), block(most, 2)));
+    out.push((last(most, 1), last(most, 2)));
+}
+
+/// Fixed edits, older and newer text.
+pub fn edits() -> Vec<(String, String)> {
+    let mut out = EDITS.iter().map(|(older, newer)| (older.to_string(), newer.to_string())).collect();
+    nested_edits(&mut out);
+    out
 }
 
 fn statement(s: &str) -> String {

@@ -26,7 +26,7 @@ pub enum Kind {
     Number,
     /// Floats in every form.
     Literal,
-    /// Nested around 64.
+    /// Nested around the deepest level.
     Nesting,
     /// As clang printed it.
     Clang,

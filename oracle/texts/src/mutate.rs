@@ -2,6 +2,7 @@
 
 use crate::rng::Rng;
 use crate::words::{GLUE, KEYWORDS, NAMES, SPACES};
+use judge::domain::DEPTH;
 
 /// A range of a text, mostly short.
 fn range(rng: &mut Rng, length: usize) -> (usize, usize) {
@@ -98,12 +99,13 @@ pub fn damage(rng: &mut Rng, text: &mut Vec<u8>, other: &[u8]) {
 /// A newer text for an older one that is not empty.
 pub fn edit(rng: &mut Rng, older: &[u8]) -> Vec<u8> {
     let mut newer = older.to_vec();
-    match rng.below(10) {
-        0 => {}
-        1 | 2 => insert(rng, &mut newer),
-        3 | 4 => replace(rng, &mut newer),
-        5 | 6 => delete(rng, &mut newer),
-        7 => digit(rng, &mut newer),
+    match rng.below(21) {
+        0 | 1 => {}
+        2 => nest(rng, &mut newer),
+        3..=6 => insert(rng, &mut newer),
+        7..=10 => replace(rng, &mut newer),
+        11..=14 => delete(rng, &mut newer),
+        15 | 16 => digit(rng, &mut newer),
         _ => damage(rng, &mut newer, b" ret void %x = add i8 1, 2 } addrspace: ret i8 1 ; c\n"),
     }
     newer
@@ -115,6 +117,21 @@ fn digit(rng: &mut Rng, text: &mut [u8]) {
     if !digits.is_empty() {
         text[rng.pick(&digits)] = rng.pick(b"0123456789");
     }
+}
+
+/// One integer type put into structs around the deepest level.
+fn nest(rng: &mut Rng, text: &mut Vec<u8>) {
+    let word = |b: u8| b.is_ascii_alphanumeric() || b"_.-$%@\"".contains(&b);
+    let begins = |i: usize| text[i] == b'i' && text[i + 1].is_ascii_digit() && (i == 0 || !word(text[i - 1]));
+    let types: Vec<usize> = (0..text.len().saturating_sub(1)).filter(|&i| begins(i)).collect();
+    if types.is_empty() {
+        return;
+    }
+    let start = rng.pick(&types);
+    let end = start + 1 + text[start + 1..].iter().take_while(|b| b.is_ascii_digit()).count();
+    let n = DEPTH - 4 + rng.below(6);
+    let nested = [&vec![b'{'; n], &text[start..end], &vec![b'}'; n]].concat();
+    text.splice(start..end, nested);
 }
 
 /// Words and directory words beyond what the older text needs: exact fit to ample.

@@ -1,6 +1,7 @@
-//! Numbers around each limit, literals of every form, nesting around 64.
+//! Numbers around each limit, literals of every form, nesting around the deepest level.
 
 use crate::rng::Rng;
+use judge::domain::DEPTH;
 
 /// Limits of 01: width, index, other numbers, signed 128 bits; and beyond.
 const LIMITS: &[&str] = &[
@@ -223,9 +224,9 @@ const VALUE_SLOTS: &[(&str, &str)] = &[
     ("void @f(){switch i8 ", ",label %a[]}"),
 ];
 
-/// Nested around 64, closed or cut off or wrong in the middle.
+/// Nested around the deepest level, now and then far beyond, closed or cut off or wrong in the middle.
 pub fn nesting(rng: &mut Rng) -> Vec<u8> {
-    let depth = 60 + rng.below(8);
+    let depth = if rng.one_in(8) { DEPTH + rng.below(64) } else { DEPTH - 4 + rng.below(8) };
     let values = rng.below(depth + 1);
     let in_value = rng.one_in(2);
     let turns = rng.one_in(3);

@@ -111,7 +111,12 @@ impl Report {
         let Some(mut call) = reread::edit(rng, older) else { return };
         self.edit(port, &call);
         reread::alter(rng, &mut call);
-        if let Some(number) = self.call(port, &call) {
+        self.altered(port, &call);
+    }
+
+    /// A call whose older records may be of another text, beside the model.
+    fn altered(&mut self, port: &dyn Port, call: &reread::Call) {
+        if let Some(number) = self.call(port, call) {
             self.altered.count(number);
         }
     }
@@ -157,18 +162,17 @@ fn fixed(port: &dyn Port) -> Report {
     // Too long for ample arrays; their records are short.
     big::longest().iter().for_each(|text| report.tried(text, rooms::one(port, text, 64, 64)));
     if port.rereads() {
-        fixed_edits(port, &mut report);
+        fixed_calls(port, &mut report);
     }
     report
 }
 
-/// The edits that every run reads again, at the exact fit and with some room.
-fn fixed_edits(port: &dyn Port, report: &mut Report) {
-    for (older, newer) in cover::EDITS {
-        for spare in SPARES {
-            let call = reread::call(older.as_bytes(), newer.as_bytes().to_vec(), spare);
-            report.edit(port, &call.expect("an older text that is read"));
-        }
+/// The calls that every run makes, at the exact fit and with some room.
+fn fixed_calls(port: &dyn Port, report: &mut Report) {
+    for spare in SPARES {
+        let (edits, lent) = reread::fixed(spare);
+        edits.iter().for_each(|call| report.edit(port, call));
+        lent.iter().for_each(|call| report.altered(port, call));
     }
 }
 

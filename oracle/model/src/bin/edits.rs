@@ -4,23 +4,23 @@
 //!     OLDER NEWER WORDS DIRECTORY COUNT R NUMBER PLACE
 //!
 //! Texts are in hexadecimal, `-` for an empty one; arrays whole, hexadecimal numbers with commas between, `-` for an empty one;
-//! the other numbers decimal. First stand the fixed edits of texts/src/cover.rs; of the others every second call has something
+//! the other numbers decimal. First stand the fixed calls of `model::calls`; of the others every second call has something
 //! altered: words, directory, count or texts.
 
 use judge::answer::on_big_stack;
 use judge::files;
-use model::calls::{alter, call, edit, Call};
+use model::calls::{alter, edit, fixed, Call};
 use model::reparse_define;
 use std::collections::HashSet;
 use std::process::ExitCode;
 use texts::rng::Rng;
-use texts::{cover, Texts};
+use texts::Texts;
 
 /// Longer texts and arrays would make the list long and say little more.
 const LONGEST: usize = 100;
 const MOST_WORDS: usize = 60;
-/// What the fixed edits are lent beyond the exact fit of the older text.
-const ROOM: (usize, usize) = (20, 4);
+/// What the fixed calls are lent beyond the exact fit of the older text.
+const ROOMS: [(usize, usize); 2] = [(20, 4), (0, 0)];
 
 fn hex(bytes: &[u8]) -> String {
     if bytes.is_empty() {
@@ -64,12 +64,12 @@ fn short(call: &Call) -> bool {
 fn list(seed: u64, count: usize) -> String {
     let (mut texts, mut rng) = (Texts::new(seed), Rng::new(seed));
     let (mut lines, mut seen) = (String::new(), HashSet::new());
-    for (older, newer) in cover::EDITS {
-        let call =
-            call(older.as_bytes(), newer.as_bytes().to_vec(), ROOM).expect("an older text that is read");
-        let line = line(&call);
-        lines.push_str(&(line.clone() + "\n"));
-        seen.insert(line);
+    for (edits, lent) in ROOMS.map(fixed) {
+        for call in edits.iter().chain(&lent) {
+            let line = line(call);
+            lines.push_str(&(line.clone() + "\n"));
+            seen.insert(line);
+        }
     }
     while seen.len() < count {
         let (_, older) = texts.draw();
