@@ -30,8 +30,14 @@ const LEXER: &[Change] = &[
 ];
 
 const PARSER: &[Change] = &[
-    change(1, "    input: Lexer,\n}", "    input: Lexer,\n    depth: usize,\n}"),
-    change(1, "Parser { input }", "Parser { input, depth: 0 }"),
+    change(1, "    input: Lexer,\n}", "    input: Lexer,\n    depth: usize,\n    pub bare: Option<usize>,\n}"),
+    change(1, "Parser { input }", "Parser { input, depth: 0, bare: None }"),
+    // M-101
+    change(
+        1,
+        "if self.input.match_keyword(kw)? {\n                    self.skip_parens()?;\n",
+        "if self.input.match_keyword(kw)? {\n                    self.skip_parens_of(kw)?;\n",
+    ),
     // 15
     change(
         1,

@@ -34,6 +34,18 @@ impl Parser
         Ok(val)
     }
 
+    /// M-101: `dead_on_return` stands in both lists; bare where no `(` follows. `bare` keeps the
+    /// first place where the Rust refuses it with 3.
+    fn skip_parens_of(&mut self, kw: &str) -> Result<(), ParseError>
+    {
+        self.input.eat_ws()?;
+        if FLAG_ATTRS.contains(&kw) && self.input.peek_ch() != '(' {
+            self.bare.get_or_insert(self.input.place());
+            return Ok(());
+        }
+        self.skip_parens()
+    }
+
     /// 15: a number from low to high, asked behind its digits, at the first of them.
     fn ask_int(&mut self, low: i128, high: i128) -> Result<i128, ParseError>
     {

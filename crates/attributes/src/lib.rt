@@ -10,7 +10,7 @@ ghost use lib.ListN.{drop};
 ghost use Rattle.program.specs.Prog.{scanLen};
 ghost use Rattle.grammar.specs.Lexer.{skipAll};
 ghost use Rattle.records.specs.Limits.{turns};
-ghost use Rattle.grammar.specs.Attributes.{parenAttrs, flagAttrs, linkages, callingConventions, convFlags, skipArithFlags, skipFastMathFlags, parseLinkage, skipCallCconv, groupStep, skipAttrs};
+ghost use Rattle.grammar.specs.Attributes.{parenAttrs, flagAttrs, linkages, callingConventions, convFlags, skipArithFlags, skipFastMathFlags, parseLinkage, skipCallCconv, groupStep, attrParens, skipAttrs};
 ghost use Rattle.attributes.specs.Step.{groupDigits, AttrStep, letters, lettersP, noAttrs};
 ghost use Rattle.lexer.specs.Table.{Classes};
 ghost use Rattle.lexer.specs.Step.{rankP, rankedP};
@@ -18,6 +18,9 @@ ghost use Rattle.lexer.specs.Reads.{Gives};
 
 // The rank of a linkage that is not written.
 const UNWRITTEN: usize = records::NO_LINKAGE as usize;
+
+// The rank of `dead_on_return` in `PAREN_ATTRS`.
+const DEAD_ON_RETURN: usize = 18;
 
 // An attribute with parentheses behind it (`PAREN_ATTRS`).
 fn paren_attr(classes: &[u8; 256], text: &[u8], p: Parsed) -> Ranked
@@ -274,6 +277,21 @@ fn skip_group(classes: &[u8; 256], text: &[u8], p: Parsed) -> Parsed
     }
 }
 
+// The parentheses behind a word of `PAREN_ATTRS`, by its rank; `dead_on_return` may stand without.
+fn attr_parens(classes: &[u8; 256], text: &[u8], p: Parsed, r: usize) -> Parsed
+    requires { ⌜ Classes (now classes) ⌝ }
+    ensures { λ x. ⌜ Gives (attrParens r) tt (now (text .entry)) p x ⌝ }
+{
+    if r == DEAD_ON_RETURN {
+        let q = lexer::eat_ws(classes, text, p);
+        if lexer::looks(text, q, b'(') {
+            return names::skip_parens(classes, text, q);
+        }
+        return q;
+    }
+    names::skip_parens(classes, text, p)
+}
+
 // Where the reader is behind one attribute, or behind them all.
 pub struct Passed {
     pub p: Parsed,
@@ -351,7 +369,7 @@ fn attr_step(classes: &[u8; 256], text: &[u8], p: Parsed) -> Passed
     let q5 = k.p;
     let r = k.r;
     if r < 19 {
-        let q6 = names::skip_parens(classes, text, q5);
+        let q6 = attr_parens(classes, text, q5, r);
         return Passed { p: q6, more: true };
     }
     if lexer::word(classes, text, q5, b"align") {

@@ -3,6 +3,7 @@
 use mathlib.Core.List.{List, _++_}
 use mathlib.Core.Option.{Option, none, some}
 use Prim.Native.Nat.{ℕ, zero, suc}
+use lib.Dec.{eqb}
 use Rattle.program.specs.Bytes.{bytes, byte, table}
 use Rattle.program.specs.Choice.{pick}
 use Rattle.program.specs.Class.{isDigit}
@@ -10,7 +11,7 @@ use Rattle.program.specs.Prog.{Prog, ret, scan, _>>=_}
 use Rattle.records.specs.Limits.{turns, numberLimit}
 use Rattle.records.specs.Questions.{qLeftOut}
 use Rattle.records.specs.Details.{noLinkage}
-use Rattle.grammar.specs.Lexer.{refuse, eatWs, byteIf, byteAtIf, wordIf, rankIf, skipAll, skipParens}
+use Rattle.grammar.specs.Lexer.{refuse, eatWs, byteIf, byteAtIf, wordIf, rank, rankIf, skipAll, skipParens}
 use Rattle.grammar.specs.Numbers.{parseInt}
 
 -- `FLAG_ATTRS`
@@ -53,6 +54,15 @@ convFlags = table "nneg nuw nsw"
 unfoldable pub groupStep : ℕ → ℕ → Option ℕ
 groupStep q x = pick (isDigit x) (some 0) none
 
+-- the one word of both lists, by its rank in `parenAttrs`
+unfoldable pub deadOnReturn : ℕ
+deadOnReturn = rank (bytes "dead_on_return") parenAttrs
+
+-- The parentheses behind a word of `parenAttrs`, by its rank. M-101: "The parenthesised rule goes first and applies only when `(` follows, white
+-- space and comments allowed; otherwise the bare rule applies."
+unfoldable pub attrParens : ℕ → Prog (Unit {0})
+attrParens r = pick (eqb r deadOnReturn) (eatWs >>= λ _. byteAtIf (byte "(") skipParens (ret tt)) skipParens
+
 -- `skip_attrs`: attributes, as many as stand there. A word with parentheses goes first; a quoted attribute is 18.
 unfoldable pub skipAttrsIn : ℕ → Prog (Unit {0})
 skipAttrsIn zero = ret tt
@@ -60,7 +70,7 @@ skipAttrsIn (suc u) = do
   _ ← eatWs
   byteIf (byte "#") (scan groupStep 0 (λ w. skipAttrsIn u))
       (byteAtIf (byte "\"") (refuse qLeftOut)
-      (rankIf parenAttrs (λ r. skipParens >>= λ _. skipAttrsIn u)
+      (rankIf parenAttrs (λ r. attrParens r >>= λ _. skipAttrsIn u)
       (wordIf (bytes "align") (eatWs >>= λ _. (parseInt 0 numberLimit >>= λ _. skipAttrsIn u))
       (rankIf flagAttrs (λ r. skipAttrsIn u) (ret tt)))))
 

@@ -80,8 +80,8 @@ unfolding
     Numbers.isFloat Numbers.isValid Numbers.digitsOf Numbers.upOf Numbers.downOf Numbers.floatOf Numbers.signed Numbers.integerOf
     Numbers.decimalOf Numbers.literalOf Numbers.parseNumeral
     Attributes.flagAttrs Attributes.parenAttrs Attributes.linkages Attributes.callingConventions Attributes.arithFlags
-    Attributes.fastMathFlags Attributes.convFlags Attributes.groupStep Attributes.skipAttrsIn Attributes.skipAttrs Attributes.parseLinkage
-    Attributes.skipCallCconv Attributes.skipArithFlags Attributes.skipFastMathFlags
+    Attributes.fastMathFlags Attributes.convFlags Attributes.groupStep Attributes.deadOnReturn Attributes.attrParens Attributes.skipAttrsIn
+    Attributes.skipAttrs Attributes.parseLinkage Attributes.skipCallCconv Attributes.skipArithFlags Attributes.skipFastMathFlags
     Types.room Types.child Types.wholeOf Types.whole Types.behind Types.typeChild Types.commaOr Types.commaList Types.dotsList
     Types.structFields Types.typeItem Types.parseTypeList Types.intType Types.nameNode Types.optAddrspace Types.ptrType Types.leafTypes
     Types.arrayType Types.structType Types.packedType Types.parseBaseType Types.suffixes Types.typeWith Types.noType Types.parseType

@@ -1,11 +1,23 @@
 -- Each program that drops attributes refuses inside the text.
 -- Assumes nothing.
 use Prim.Native.Nat.{ℕ, zero, suc}
+use mathlib.Core.Bool.{Bool, true, false}
+use lib.Dec.{eqb}
+use Rattle.program.specs.Choice.{pick}
+use Rattle.program.specs.Prog.{Prog}
 use Rattle.records.specs.Limits.{turns}
-use Rattle.grammar.specs.Attributes.{arithFlags, fastMathFlags, skipAttrsIn, skipAttrs, parseLinkage, skipCallCconv, skipArithFlags, skipFastMathFlags}
+use Rattle.grammar.specs.Attributes.{arithFlags, fastMathFlags, deadOnReturn, attrParens, skipAttrsIn, skipAttrs, parseLinkage, skipCallCconv, skipArithFlags, skipFastMathFlags}
 use Rattle.theorem_refusals.specs.Inside.{Inside, scans, Any, then, done}
 use Rattle.theorem_refusals.specs.Lexer.{in-refuse, in-eatWs, in-byteIf, in-byteAtIf, in-wordIf, in-rankIf, in-skipAll, in-skipParens}
 use Rattle.theorem_refusals.specs.Numbers.{in-parseInt}
+
+in-pick : {n : ℕ} (t : Bool) {f g : Prog (Unit {0})} → Inside n Any f → Inside n Any g → Inside n Any (pick t f g)
+in-pick true h k = h
+in-pick false h k = k
+
+in-attrParens : {n : ℕ} (r : ℕ) → Inside n Any (attrParens r)
+unfolding attrParens
+in-attrParens r = in-pick (eqb r deadOnReturn) (then in-eatWs λ _. in-byteAtIf 40 in-skipParens done) in-skipParens
 
 in-skipAttrsIn : {n : ℕ} (u : ℕ) → Inside n Any (skipAttrsIn u)
 unfolding skipAttrsIn
@@ -14,7 +26,7 @@ in-skipAttrsIn (suc u) =
     then in-eatWs λ _.
     in-byteIf _ (scans λ w. in-skipAttrsIn u)
     (in-byteAtIf 34 (in-refuse 18 tt)
-    (in-rankIf _ (λ r. then in-skipParens λ _. in-skipAttrsIn u)
+    (in-rankIf _ (λ r. then (in-attrParens r) λ _. in-skipAttrsIn u)
     (in-wordIf _ (then in-eatWs λ _. then (in-parseInt _ _) λ _. in-skipAttrsIn u)
     (in-rankIf _ (λ r. in-skipAttrsIn u) done))))
 

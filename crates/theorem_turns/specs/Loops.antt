@@ -8,7 +8,7 @@ use native.Mathlib.Omega.{arith}
 use Rattle.program.specs.Prog.{Prog}
 use Rattle.grammar.specs.Lexer.{eatWs, sameWord, rank, skipAll, skipParens, skipMetadataRef, place}
 use Rattle.grammar.specs.Numbers.{parseInt}
-use Rattle.grammar.specs.Attributes.{flagAttrs, parenAttrs, arithFlags, fastMathFlags, convFlags, skipAttrsIn}
+use Rattle.grammar.specs.Attributes.{flagAttrs, parenAttrs, arithFlags, fastMathFlags, convFlags, attrParens, skipAttrsIn}
 use Rattle.grammar.specs.Types.{TypeOut, ptrWords, optAddrspace, parseTypeList, suffixes}
 use Rattle.grammar.specs.Values.{pairChild, parseGepFlags}
 use Rattle.grammar.specs.Instructions.{clausesIn, gepInstIndices}
@@ -56,7 +56,7 @@ same-skipAttrsIn (suc n) (suc u) (suc v) a b =
     then eatWs λ _.
     byte-taken _ (scans λ w. again)
     (by-byte-at 34 alike
-    (rank-taken parenAttrs full-parenAttrs (λ r. then skipParens λ _. again)
+    (rank-taken parenAttrs full-parenAttrs (λ r. then (attrParens r) λ _. again)
     (word-taken _ _ (then eatWs λ _. then (parseInt _ _) λ _. again)
     (rank-taken flagAttrs full-flagAttrs (λ r. again) alike))))
 

@@ -37,18 +37,37 @@ impl fmt::Display for Answer {
     }
 }
 
-/// What the Rust says, once 01's own questions have let the text through.
+/// What the Rust says, once 01's own questions have let the text through; where it meets a bare
+/// `dead_on_return` (M-101), what it says with that mended.
 pub fn judge(text: &[u8]) -> Answer {
     if let Some((number, place)) = domain::whole_text(text) {
         return Answer::Outside { number, place };
     }
     let text = std::str::from_utf8(text).expect("bytes up to 127");
     if !domain::surely_inside(text.as_bytes()) {
-        if let Answer::Refused { number: number @ 15.., place } = asked(text) {
+        let Asked { answer, bare } = asked(text);
+        if let Answer::Refused { number: number @ 15.., place } = answer {
             return Answer::Outside { number, place };
+        }
+        if let Some(place) = bare {
+            return mended(answer, place, rust(text));
         }
     }
     rust(text)
+}
+
+/// The asked copy's answer to a text with a bare `dead_on_return`, if the Rust refuses it there.
+fn mended(answer: Answer, bare: usize, rust: Answer) -> Answer {
+    match rust {
+        Answer::Refused { number: 3, place } if place == bare => answer,
+        rust => Answer::Broken(format!("a bare attribute at {bare}, but the Rust says {rust}")),
+    }
+}
+
+/// Whether M-101 reads on where the Rust refuses the text with 3.
+pub fn reads_on(text: &[u8]) -> bool {
+    let text = std::str::from_utf8(text).unwrap_or_default();
+    text.contains(domain::BOTH_WAYS) && asked(text).bare.is_some()
 }
 
 /// The test copy's answer, whatever the text. Nested some 17,000 deep it aborts the process.
@@ -62,15 +81,25 @@ pub fn rust(text: &str) -> Answer {
     })
 }
 
-/// The asked copy's answer: the Rust's, but with questions 15 to 19 put in.
-pub fn asked(text: &str) -> Answer {
-    survive(|| {
+/// The asked copy's answer, and the first place where it passed a bare `dead_on_return`.
+pub struct Asked {
+    pub answer: Answer,
+    pub bare: Option<usize>,
+}
+
+/// The Rust's answer, but with questions 15 to 19 and M-101 put in.
+pub fn asked(text: &str) -> Asked {
+    let mut bare = None;
+    let answer = survive(|| {
         let mut parser = asked::parser::Parser::new(asked::lexer::Lexer::new(text, "text"));
-        match parser.parse_define() {
+        let result = parser.parse_define();
+        bare = parser.bare;
+        match result {
             Ok(function) => Answer::Accepted(Box::new(function)),
             Err(e) => refused(text, &e.msg, parser.place(), e.pos.line_column()),
         }
-    })
+    });
+    Asked { answer, bare }
 }
 
 thread_local! {

@@ -65,6 +65,15 @@ fn attributes() {
     assert_eq!(table("Attributes", "linkages"), matched("parse_linkage", "expected a linkage"));
 }
 
+/// The lists are the Rust's; the rule for the one word in both differs on purpose (M-101): there it
+/// needs its parentheses.
+#[test]
+fn in_both_lists() {
+    let with_parens = table("Attributes", "parenAttrs");
+    let both = table("Attributes", "flagAttrs").into_iter().filter(|word| with_parens.contains(word));
+    assert_eq!(both.collect::<Vec<_>>(), [judge::domain::BOTH_WAYS]);
+}
+
 #[test]
 fn flags() {
     let text = parser();

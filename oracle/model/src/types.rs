@@ -191,8 +191,12 @@ impl Cursor<'_> {
                 }
             } else if self.peek() == Some(b'"') {
                 return self.refuse(18);
-            } else if self.one_of(PAREN_ATTRS).is_some() {
-                self.parens()?;
+            } else if let Some(rank) = self.one_of(PAREN_ATTRS) {
+                // Of a word in both lists the parenthesised rule goes first, where `(` follows.
+                self.space();
+                if self.peek() == Some(b'(') || !FLAG_ATTRS.contains(&PAREN_ATTRS[rank]) {
+                    self.parens()?;
+                }
             } else if self.keyword("align") {
                 self.space();
                 self.number(0, u64::MAX)?;

@@ -81,6 +81,19 @@ fn quoted_and_atomic() {
     assert_eq!(refused("  \"k\" void @f(){}"), (18, 2));
 }
 
+/// 02, M-101: with parentheses where `(` follows, else bare.
+#[test]
+fn dead_on_return() {
+    let frame = |a: &str| format!("void @f(ptr {a}%x){{ret void}}");
+    for a in ["dead_on_return ", "dead_on_return(8)", "dead_on_return ; (\n (8)", "dead_on_return ; (\n "] {
+        assert!(records(frame(a).as_bytes()).is_ok(), "{a}");
+    }
+    assert_eq!(refused("void @f() dead_on_return ( {}"), (13, 29));
+    assert_eq!(refused(&frame("dead_on_return_")), (3, 12));
+    assert_eq!(refused(&frame("dead_on_return.x")), (3, 26));
+    assert_eq!(refused(&frame("initializes ")), (3, 24));
+}
+
 #[test]
 fn depth() {
     let braces = |n: usize, inner: &str| format!("{}{inner}{} @f(){{}}", "{".repeat(n), "}".repeat(n));

@@ -10,9 +10,21 @@ pub const STORED: &[(&str, &str)] = &[
     ("opaque-O2", include_str!("../../../texts/clang/opaque-O2.ll")),
 ];
 
-/// Every stored function, from behind the word `define` through its closing brace.
+/// Structs handed over by a pointer, as clang 22 prints them: `dead_on_return` stands bare (M-101).
+pub const NEWEST: &[(&str, &str)] = &[
+    ("newest-O0", include_str!("../../../texts/clang/newest-O0.ll")),
+    ("newest-O1", include_str!("../../../texts/clang/newest-O1.ll")),
+    ("newest-O2", include_str!("../../../texts/clang/newest-O2.ll")),
+];
+
+/// Every stored function.
 pub fn functions() -> Vec<Vec<u8>> {
-    let all = STORED.iter().flat_map(|(_, module)| cut(module));
+    [functions_of(STORED), functions_of(NEWEST)].concat()
+}
+
+/// Each function of these, from behind the word `define` through its closing brace.
+pub fn functions_of(modules: &[(&str, &str)]) -> Vec<Vec<u8>> {
+    let all = modules.iter().flat_map(|(_, module)| cut(module));
     all.map(|text| text.as_bytes().to_vec()).collect()
 }
 

@@ -168,6 +168,13 @@ const HEADS: &[&str] = &[
     "cc10 void @f(){}", "align void @f(){}", "align 4 void @f(){}", "align(4) void @f(){}",
     "captures void @f(){}", "captures(none void @f(){}", "captures((x) void @f(){}",
     "dead_on_return void @f(){}", "dead_on_return(1) void @f(){}", "void @f()dead_on_return{}",
+    "void @f() dead_on_return ( {}", "void @f(ptr dead_on_return ; (\n (8)){ret void}",
+    "void @f(ptr dead_on_return ; (\n %x){ret void}", "void @f(ptr dead_on_return_){}",
+    "void @f(ptr dead_on_return.x){}", "void @f(ptr dead_on_return", "void @f(ptr dead_on_return ;",
+    "void @f(ptr dead_on_return(", "void @f(ptr dead_on_return dead_on_return(8) dead_on_return %x){}",
+    "void @f(ptr dead_on_return() ()){}", "void @f(ptr dead_on_return\"x\"){}",
+    "void @f(ptr dead_on_return#1 align 8 %x){}", "void @f(ptr dead_on_unwind(1) %x){}",
+    "void @f(i8(ptr dead_on_return, ...) %x){call void(ptr dead_on_return)@g(ptr dead_on_return %p) ret void}",
     "uwtable(sync) void @f(){}", "void @f()comdat($c){}", "noundef", "fastcc fastcc void @f(){}",
     "fastcc weak void @f(){}", "private private", "void@f(){}", "i32@f(i32%x){ret i32%x}", "void()@f(){}",
     "void()*@f(){}", "void @f(){}\0", "\0", "void @f(){\0}", "void\0@f(){}", "void @f\0(){}",
@@ -175,11 +182,22 @@ const HEADS: &[&str] = &[
     "void @f(){%x=alloca i8 addrspace: ret void}", "void @f(){ret void addrspace: ret void}",
 ];
 
-/// Edits, older and newer text: a number out of its range in each piece.
+/// Edits, older and newer text: a number out of its range in each piece; the parentheses of
+/// `dead_on_return` put in, taken out, left open.
 const EDITS: &[(&str, &str)] = &[
     ("void @f(i8 %x){ret void}", "void @f(i0 %x){ret void}"),
     ("void @f(){br label %a a: ret i8 1}", "void @f(){br label %a a: ret i008388609_ 1}"),
     ("void @f(){ret void}", "void @f(){ret void %x = load i8, ptr %p, align 0018446744073709551616}"),
+    ("void @f(ptr dead_on_return %x){ret void}", "void @f(ptr dead_on_return (8) %x){ret void}"),
+    ("void @f(ptr dead_on_return(8) %x){ret void}", "void @f(ptr dead_on_return;(8)\n %x){ret void}"),
+    (
+        "void @f(){call void @g() dead_on_return ret void}",
+        "void @f(){call void @g() dead_on_return(ret void}",
+    ),
+    (
+        "void @f(){ret void a: ret void}",
+        "void @f(){ret void a: call void @g(ptr dead_on_return %p) ret void}",
+    ),
 ];
 
 /// Questions 2, 15, 17 and 18, which the Rust does not ask.
@@ -211,6 +229,27 @@ const OUTSIDE: &[&str] = &[
     "void @f(){%x = atomicrmw add ptr %p, i8 1 seq_cst}",
     "void @f(){%x = \"atomicrmw\" add ptr %p, i8 1 seq_cst}", "void @f(){%x = \"\\61tomicrmw\" }",
     "void @f(){%x = atomicrmw.x}",
+];
+
+/// Stored runs of `pieces` on texts that are refused: a list of vectors holds their answers too.
+const RUNS: &[&[u8]] = &[
+    include_bytes!("../../../runs/pieces/refused-02.in"),
+    include_bytes!("../../../runs/pieces/refused-03.in"),
+    include_bytes!("../../../runs/pieces/refused-04.in"),
+    include_bytes!("../../../runs/pieces/refused-05.in"),
+    include_bytes!("../../../runs/pieces/refused-06.in"),
+    include_bytes!("../../../runs/pieces/refused-07.in"),
+    include_bytes!("../../../runs/pieces/refused-08.in"),
+    include_bytes!("../../../runs/pieces/refused-09.in"),
+    include_bytes!("../../../runs/pieces/refused-10.in"),
+    include_bytes!("../../../runs/pieces/refused-11.in"),
+    include_bytes!("../../../runs/pieces/refused-12.in"),
+    include_bytes!("../../../runs/pieces/refused-13.in"),
+    include_bytes!("../../../runs/pieces/refused-14.in"),
+    include_bytes!("../../../runs/pieces/refused-15.in"),
+    include_bytes!("../../../runs/pieces/refused-16.in"),
+    include_bytes!("../../../runs/pieces/refused-17.in"),
+    include_bytes!("../../../runs/pieces/refused-18.in"),
 ];
 
 /// Nested to the limit and one deeper, in a type and in a value.
@@ -299,7 +338,7 @@ pub fn texts() -> Vec<Vec<u8>> {
     words(&mut out, NO_STATEMENTS, |s| format!("void @f(){{{s}"));
     words(&mut out, TERMINATORS, |t| format!("void @f(){{{t}}}"));
     words(&mut out, TERMINATORS, |t| format!("void @f(){{a: fence {t} fence {t} b:}}"));
-    out.into_iter().map(String::into_bytes).collect()
+    out.into_iter().map(String::into_bytes).chain(RUNS.iter().map(|text| text.to_vec())).collect()
 }
 
 fn expressions(out: &mut Vec<String>) {

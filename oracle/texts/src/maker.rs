@@ -202,7 +202,7 @@ impl Maker<'_> {
     }
 
     pub fn attr(&mut self) {
-        match self.rng.below(12) {
+        match self.rng.below(13) {
             0..=4 => self.any(FLAG_ATTRS),
             5..=7 => {
                 self.any(PAREN_ATTRS);
@@ -216,8 +216,27 @@ impl Maker<'_> {
                 let n = self.rng.below(40);
                 self.token(&format!("#{n}"));
             }
+            11 => self.both_ways(),
             _ if self.rng.one_in(20) => self.token("\"key\"=\"value\""),
             _ => self.token("#"),
+        }
+    }
+
+    /// The attribute that may stand bare: a `(` behind it, in a comment, or none; more word behind it.
+    fn both_ways(&mut self) {
+        self.token("dead_on_return");
+        match self.rng.below(12) {
+            0..=5 => {}
+            6..=8 => self.parens(),
+            9 => self.text(" ; (\n"),
+            10 => {
+                self.text(";(\n\t");
+                self.parens();
+            }
+            _ => {
+                let more = self.rng.pick(&["_", ".x", "1", "-", "$", "(", " (", "()(", "\"", "#", "align 4"]);
+                self.text(more);
+            }
         }
     }
 

@@ -1,6 +1,6 @@
 //! The asked copy and the quick look, held against the Rust over many texts.
 
-use judge::answer::{asked, on_big_stack, rust};
+use judge::answer::{asked, on_big_stack, rust, Asked};
 use judge::{domain, Answer};
 use texts::{cover, Texts};
 
@@ -9,13 +9,20 @@ fn check(text: &[u8]) {
         return;
     }
     let text = std::str::from_utf8(text).expect("bytes up to 127");
-    let answer = asked(text);
+    let Asked { answer, bare } = asked(text);
     if let Answer::Refused { number: 15.., .. } = answer {
         assert!(!domain::surely_inside(text.as_bytes()), "{text:?}");
         return;
     }
-    assert_eq!(answer.to_string(), rust(text).to_string(), "{text:?}");
     assert!(!matches!(answer, Answer::Broken(_)), "{text:?}");
+    let answer = match bare {
+        Some(place) => {
+            assert!(!domain::surely_inside(text.as_bytes()), "{text:?}");
+            Answer::Refused { number: 3, place }
+        }
+        None => answer,
+    };
+    assert_eq!(answer.to_string(), rust(text).to_string(), "{text:?}");
 }
 
 #[test]

@@ -5,10 +5,9 @@ use Rattle.attributes.specs.Step.{letters, isSmall, noAttrs}
 use Rattle.grammar.specs.Lexer.{rank, sameWord}
 use Rattle.program.specs.Bytes.{bytes}
 use mathlib.Core.Path.{refl}
-use Rattle.attributes.proofs.AttrLaws.{g-at-yes, g-at-no}
 use Rattle.attributes.specs.Step.{groupDigits}
 use Rattle.keywords.proofs.Ranks.{g-rank-yes, g-rank-no}
-use Rattle.lexer.proofs.Laws.{true-false, g-then, g-done, g-stay, g-byte-yes, g-byte-no, g-word-yes, g-word-no, g-fail}
+use Rattle.lexer.proofs.Laws.{true-false, g-then, g-done, g-stay, g-byte-yes, g-byte-no, g-byte-at-yes, g-byte-at-no, g-word-yes, g-word-no, g-fail}
 use Rattle.grammar.specs.Attributes.{parenAttrs, flagAttrs, skipAttrsIn}
 use Rattle.program.specs.Prog.{_>>=_}
 use mathlib.Core.Path.{sym}
@@ -33,7 +32,7 @@ returns-2 c =
       again = λ e u. true-false e;
       over = λ e u. g-then _ (c .before .before .before .before .before .eat-ws .ensures)
           (g-byte-no _ _ (c .before .before .before .before .looks .ensures) (c .before .before .before .if1 .left)
-          (g-at-yes _ _ (c .before .before .looks2 .ensures) (c .before .if2 .taken) (g-fail _ (c .refuse .ensures))));
+          (g-byte-at-yes _ _ (c .before .before .looks2 .ensures) (c .before .if2 .taken) (g-fail _ (c .refuse .ensures))));
     }
 
 returns-3 : tie.Need-returns-3
@@ -46,7 +45,7 @@ returns-3 c =
       again = λ e u. true-false e;
       over = λ e u. g-then _ (c5 .before .eat-ws .ensures)
           (g-byte-no _ _ (c5 .looks .ensures) (c3 .before .if1 .left)
-          (g-at-no _ _ (c3 .looks2 .ensures) (c1 .before .if2 .left)
+          (g-byte-at-no _ _ (c3 .looks2 .ensures) (c1 .before .if2 .left)
           (letters-rank parenAttrs _ refl (c1 .two-letters .ensures) (not-yes _ (c .if3 .taken))
           (letters-word (bytes "align") _ refl (c1 .two-letters .ensures) (not-yes _ (c .if3 .taken))
           (letters-rank flagAttrs _ refl (c1 .two-letters .ensures) (not-yes _ (c .if3 .taken)) g-done)))));
@@ -62,7 +61,7 @@ returns-4 c =
     record {
       again = λ e u. g-then _ (c9 .before .before .eat-ws .ensures)
           (g-byte-no _ _ (c9 .before .looks .ensures) (c9 .if1 .left)
-          (g-at-no _ _ (c7 .before .looks2 .ensures) (c7 .if2 .left)
+          (g-byte-at-no _ _ (c7 .before .looks2 .ensures) (c7 .if2 .left)
           (known-rank (bytes "noundef") parenAttrs _ refl (c3 .word .ensures) (c2 .if4 .taken)
           (known-word (bytes "noundef") (bytes "align") _ refl (c3 .word .ensures) (c2 .if4 .taken)
           (known-in (bytes "noundef") flagAttrs _ _ refl (c3 .word .ensures) (c2 .if4 .taken)
@@ -80,7 +79,7 @@ returns-5 c =
       again = λ e u. true-false e;
       over = λ e u. g-then _ (c10 .before .before .eat-ws .ensures)
           (g-byte-no _ _ (c10 .before .looks .ensures) (c10 .if1 .left)
-          (g-at-no _ _ (c8 .before .looks2 .ensures) (c8 .if2 .left)
+          (g-byte-at-no _ _ (c8 .before .looks2 .ensures) (c8 .if2 .left)
           (apart-rank noAttrs parenAttrs _ refl (c2 .no-attr .ensures .0) (c .if5 .taken)
           (apart-word noAttrs (bytes "align") _ refl (c2 .no-attr .ensures .0) (c .if5 .taken)
           (apart-rank noAttrs flagAttrs _ refl (c2 .no-attr .ensures .0) (c .if5 .taken) g-done)))));
@@ -95,8 +94,8 @@ returns-6 c =
     record {
       again = λ e u. g-then _ (c13 .before .before .eat-ws .ensures)
           (g-byte-no _ _ (c13 .before .looks .ensures) (c13 .if1 .left)
-          (g-at-no _ _ (c11 .before .looks2 .ensures) (c11 .if2 .left)
-          (g-rank-yes _ _ _ (c2 .paren-attr .ensures) (c .before .if6 .taken) (g-then _ (c .skip-parens .ensures) g-stay))));
+          (g-byte-at-no _ _ (c11 .before .looks2 .ensures) (c11 .if2 .left)
+          (g-rank-yes _ _ _ (c2 .paren-attr .ensures) (c .before .if6 .taken) (g-then _ (c .attr-parens .ensures) g-stay))));
       over = λ e u. true-false (sym e);
     }
 
@@ -117,7 +116,7 @@ returns-7 c =
     record {
       again = λ e u. g-then _ (c19 .before .before .eat-ws .ensures)
           (g-byte-no _ _ (c19 .before .looks .ensures) (c19 .if1 .left)
-          (g-at-no _ _ (c17 .before .looks2 .ensures) (c17 .if2 .left)
+          (g-byte-at-no _ _ (c17 .before .looks2 .ensures) (c17 .if2 .left)
           (g-rank-no _ _ _ (c7 .before .paren-attr .ensures) (c7 .if6 .left)
           (g-word-yes _ _ (c4 .before .word2 .ensures) (c4 .if7 .taken) (c2 .pass-word2 .ensures)
           (g-then _ (c .before .eat-ws2 .ensures) (g-then _ (c .parse-int .ensures) g-stay))))));
@@ -134,7 +133,7 @@ returns-8 c =
     record {
       again = λ e u. g-then _ (c17 .before .before .eat-ws .ensures)
           (g-byte-no _ _ (c17 .before .looks .ensures) (c17 .if1 .left)
-          (g-at-no _ _ (c15 .before .looks2 .ensures) (c15 .if2 .left)
+          (g-byte-at-no _ _ (c15 .before .looks2 .ensures) (c15 .if2 .left)
           (g-rank-no _ _ _ (c5 .before .paren-attr .ensures) (c5 .if6 .left)
           (g-word-no _ _ (c2 .before .word2 .ensures) (c2 .if7 .left)
           (g-rank-yes _ _ _ (c .before .flag-attr .ensures) (c .if8 .taken) g-stay)))));
@@ -152,7 +151,7 @@ returns-9 c =
       again = λ e u. true-false e;
       over = λ e u. g-then _ (c17 .before .before .eat-ws .ensures)
           (g-byte-no _ _ (c17 .before .looks .ensures) (c17 .if1 .left)
-          (g-at-no _ _ (c15 .before .looks2 .ensures) (c15 .if2 .left)
+          (g-byte-at-no _ _ (c15 .before .looks2 .ensures) (c15 .if2 .left)
           (g-rank-no _ _ _ (c5 .before .paren-attr .ensures) (c5 .if6 .left)
           (g-word-no _ _ (c2 .before .word2 .ensures) (c2 .if7 .left)
           (g-rank-no _ _ _ (c .before .flag-attr .ensures) (c .if8 .left) g-done)))));

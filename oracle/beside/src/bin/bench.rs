@@ -142,7 +142,8 @@ fn edit(port: &dyn Port, functions: &[Vec<u8>]) -> String {
 }
 
 fn run(port: &dyn Port) -> Result<bool, String> {
-    let functions = clang::functions();
+    // Without those of clang 22: the Rust refuses most of them at their first attribute.
+    let functions = clang::functions_of(clang::STORED);
     let mut out = "| texts | number | bytes | reader MB/s | Rust MB/s | ratio |\n|---|---|---|---|---|---|\n"
         .to_string();
     out.push_str(&compare(port, "functions of clang", &functions));

@@ -7,7 +7,7 @@
 use beside::port::{Model, Port};
 use beside::shrink::shrink;
 use beside::{big, check, reread, rooms};
-use judge::{files, hex};
+use judge::{files, hex, reads_on};
 use std::collections::BTreeMap;
 use std::process::ExitCode;
 use texts::rng::Rng;
@@ -15,26 +15,34 @@ use texts::{clang, cover, maker, mutate, short, Texts};
 
 /// How many calls were answered with each number; 0 is accepted.
 #[derive(Default)]
-struct Answers(BTreeMap<u64, u64>);
+struct Answers {
+    by_number: BTreeMap<u64, u64>,
+    /// Texts that the Rust refuses for a bare `dead_on_return` (M-101), so that it was mended.
+    read_on: u64,
+}
 
 impl Answers {
-    fn count(&mut self, number: u64) {
-        *self.0.entry(number).or_default() += 1;
+    fn count(&mut self, number: u64, text: &[u8]) {
+        *self.by_number.entry(number).or_default() += 1;
+        self.read_on += u64::from(reads_on(text));
     }
 
     fn all(&self) -> u64 {
-        self.0.values().sum()
+        self.by_number.values().sum()
     }
 
     fn add(&mut self, other: Answers) {
-        other.0.into_iter().for_each(|(n, k)| *self.0.entry(n).or_default() += k);
+        other.by_number.into_iter().for_each(|(n, k)| *self.by_number.entry(n).or_default() += k);
+        self.read_on += other.read_on;
     }
 
     fn show(&self, what: &str) -> String {
-        let accepted = self.0.get(&0).unwrap_or(&0);
-        let refused: Vec<String> = self.0.range(1..).map(|(n, k)| format!("{n}: {k}")).collect();
-        let refused = refused.join(", ");
-        format!("{} {what}, {accepted} accepted; refused by number: {refused}\n", self.all())
+        let accepted = self.by_number.get(&0).unwrap_or(&0);
+        let refused: Vec<String> = self.by_number.range(1..).map(|(n, k)| format!("{n}: {k}")).collect();
+        let (all, refused, read_on) = (self.all(), refused.join(", "), self.read_on);
+        format!(
+            "{all} {what}, {accepted} accepted; refused by number: {refused}; bare dead_on_return in {read_on}\n"
+        )
     }
 }
 
@@ -65,7 +73,7 @@ impl Report {
 
     fn text(&mut self, port: &dyn Port, text: &[u8]) {
         match check::full(port, text) {
-            Ok(outcome) => self.texts.count(outcome.answer.number),
+            Ok(outcome) => self.texts.count(outcome.answer.number, text),
             Err(why) => {
                 self.wrong(text, &why);
                 self.smaller(port, text);
@@ -99,7 +107,7 @@ impl Report {
     /// A re-reading beside the model and beside the reader's own full reading.
     fn edit(&mut self, port: &dyn Port, call: &reread::Call) {
         if let Some(number) = self.call(port, call) {
-            self.edits.count(number);
+            self.edits.count(number, &call.newer);
         }
         if let Err(why) = reread::as_full(port, call) {
             self.wrong(&call.older, &format!("{why}\n  {call:?}"));
@@ -117,7 +125,7 @@ impl Report {
     /// A call whose older records may be of another text, beside the model.
     fn altered(&mut self, port: &dyn Port, call: &reread::Call) {
         if let Some(number) = self.call(port, call) {
-            self.altered.count(number);
+            self.altered.count(number, &call.newer);
         }
     }
 

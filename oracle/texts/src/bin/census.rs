@@ -87,7 +87,7 @@ fn count(seed: u64, total: u64) -> [Census; 2] {
         stream.text(format!("{kind:?}"), &text);
     }
     cover::texts().iter().for_each(|text| fixed.text("each form".to_string(), text));
-    for (name, module) in clang::STORED {
+    for (name, module) in clang::STORED.iter().chain(clang::NEWEST) {
         clang::cut(module).iter().for_each(|text| fixed.text(format!("clang {name}"), text.as_bytes()));
     }
     [stream, fixed]

@@ -1,6 +1,7 @@
 //! Compiles every C file of a folder with clang at -O0, -O1, -O2 and writes the functions, one file
 //! for each level, into another folder: as clang 14 prints them, with typed pointers, and as its
-//! `opt` prints the same module with opaque ones.
+//! `opt` prints the same module with opaque ones; with `--newest`, as clang 22 prints them for
+//! AArch64, which hands large structs over by a pointer.
 
 use judge::files;
 use std::io::Write;
@@ -66,10 +67,25 @@ fn compiled(sources: &[PathBuf], level: &str) -> Result<[String; 2], String> {
     Ok([typed, opaque])
 }
 
-fn run(from: &str, to: &str) -> Result<bool, String> {
+/// The functions of all sources by clang 22.
+fn newest(sources: &[PathBuf], level: &str) -> Result<String, String> {
+    let mut all = String::new();
+    for source in sources {
+        let path = source.to_str().ok_or("a path that is no text")?;
+        let args = ["--target=aarch64-linux-gnu", "-S", "-emit-llvm", level, "-o", "-", path];
+        all.push_str(&functions(&output("clang-22", &args, "")?));
+    }
+    Ok(all)
+}
+
+fn run(from: &str, to: &str, newer: bool) -> Result<bool, String> {
     let sources = sources(from)?;
     let mut made = vec![];
     for level in LEVELS {
+        if newer {
+            made.push((format!("{to}/newest{level}.ll"), newest(&sources, level)?));
+            continue;
+        }
         let [typed, opaque] = compiled(&sources, level)?;
         made.push((format!("{to}/typed{level}.ll"), typed));
         made.push((format!("{to}/opaque{level}.ll"), opaque));
@@ -83,8 +99,10 @@ fn run(from: &str, to: &str) -> Result<bool, String> {
 
 fn main() -> ExitCode {
     let args: Vec<String> = std::env::args().skip(1).collect();
-    files::finish(match &args[..] {
-        [from, to] => run(from, to),
-        _ => Err("usage: clang-texts FOLDER-OF-C FOLDER-TO-WRITE".to_string()),
+    let args: Vec<&str> = args.iter().map(String::as_str).collect();
+    files::finish(match args[..] {
+        ["--newest", from, to] => run(from, to, true),
+        [from, to] => run(from, to, false),
+        _ => Err("usage: clang-texts [--newest] FOLDER-OF-C FOLDER-TO-WRITE".to_string()),
     })
 }
