@@ -88,6 +88,7 @@ static const char *kind_name(unsigned kind) {
       [ZIMLOKUR_K_FREEZE] = "freeze",
       [ZIMLOKUR_K_ATOMIC_LOAD] = "atomic_load",
       [ZIMLOKUR_K_ATOMIC_STORE] = "atomic_store",
+      [ZIMLOKUR_K_ATOMIC_RMW] = "atomic_rmw",
       [ZIMLOKUR_K_CMPXCHG] = "cmpxchg",
       [ZIMLOKUR_K_EXTRACT_VALUE] = "extract_value",
       [ZIMLOKUR_K_FENCE] = "fence",
@@ -112,6 +113,7 @@ static struct ranks ranks_of(unsigned kind) {
   static const char *const icmp[] = {"eq", "ne", "ugt", "uge", "ult", "ule", "sgt", "sge", "slt", "sle"};
   static const char *const fcmp[] = {"false", "oeq", "ogt", "oge", "olt", "ole", "one", "ord",
                                      "ueq",   "ugt", "uge", "ult", "ule", "une", "uno", "true"};
+  static const char *const rmw[] = {"xchg", "add", "sub", "and", "or", "xor", "nand"};
   switch (kind) {
   case ZIMLOKUR_K_BIN:
   case ZIMLOKUR_K_BIN_EXPR:
@@ -126,6 +128,8 @@ static struct ranks ranks_of(unsigned kind) {
     return (struct ranks){icmp, sizeof icmp / sizeof *icmp};
   case ZIMLOKUR_K_FCMP:
     return (struct ranks){fcmp, sizeof fcmp / sizeof *fcmp};
+  case ZIMLOKUR_K_ATOMIC_RMW:
+    return (struct ranks){rmw, sizeof rmw / sizeof *rmw};
   default:
     return (struct ranks){NULL, 0};
   }

@@ -50,7 +50,7 @@ enum zimlokur_limit {
     ZIMLOKUR_DEPTH_LIMIT = 19
 };
 
-/* Kinds of nodes: the upper 8 bits of a header. No reading makes ZIMLOKUR_K_ATOMIC_RMW: question 18 refuses it. */
+/* Kinds of nodes: the upper 8 bits of a header. */
 enum zimlokur_kind {
     ZIMLOKUR_K_VOID = 1,
     ZIMLOKUR_K_INT = 2,

@@ -87,12 +87,13 @@ const PARSER: &[Change] = &[
         "Ok(f) => Ok(Value::Float(f)),",
         "Ok(f) => self.ask_decimal(&s, f),",
     ),
-    // 18
+    // M-100
     change(
         1,
         "\"atomicrmw\" => self.parse_atomicrmw(),",
-        "\"atomicrmw\" => self.input.parse_error(\"question 18\"),",
+        "\"atomicrmw\" => self.input.parse_error(LEFT_OUT),",
     ),
+    // 18
     change(
         1,
         "            if c == '\"' {\n                self.input.parse_str('\"')?;\n",

@@ -5,6 +5,9 @@
 const CHILDREN: usize = 65_535;
 pub const DEPTH: usize = 19;
 
+/// M-100: `atomicrmw` is never compared with the Rust, so nothing is said of what stands behind the word.
+pub const LEFT_OUT: &str = "left out for atomicrmw";
+
 impl Parser
 {
     /// 16: a type or value begins here.

@@ -14,7 +14,7 @@ use Rattle.program.specs.Bytes.{bytes}
 use Rattle.program.specs.Prog.{Prog}
 use Rattle.grammar.specs.Lexer.{refuse, sameWord, rank}
 use Rattle.grammar.specs.Values.{binOps}
-use Rattle.grammar.specs.Instructions.{among, isWordThen, fbinOps, instConvOps, tailWords, parseBin, parseFbin, parseFneg, parseConv, parseIcmp, parseFcmp, parseSelect, parseLoad, parseGepInst, parsePhi, parseAlloca, parseFreeze, parseCall, parseCmpxchg, parseExtractvalue, parseTailCall, parseStore, parseFence, parseRet, parseBr, parseSwitch, parseUnreachable, valueInst, plainInst}
+use Rattle.grammar.specs.Instructions.{among, isWordThen, fbinOps, instConvOps, tailWords, parseBin, parseFbin, parseFneg, parseConv, parseIcmp, parseFcmp, parseSelect, parseLoad, parseGepInst, parsePhi, parseAlloca, parseFreeze, parseCall, parseCmpxchg, parseAtomicrmw, parseExtractvalue, parseTailCall, parseStore, parseFence, parseRet, parseBr, parseSwitch, parseUnreachable, valueInst, plainInst}
 use Rattle.grammar.specs.Body.{Statement, asTerminator, opcode}
 use Rattle.blocks.specs.Opcodes.{valueOpcodes, valueAt, statementWords, terminatorAt, plainAt, asInstruction, statementAt}
 
@@ -153,7 +153,7 @@ wordArms dest =
     one (bytes "icmp") (parseIcmp dest) ∷ one (bytes "fcmp") (parseFcmp dest) ∷ one (bytes "select") (parseSelect dest) ∷
     one (bytes "load") (parseLoad dest) ∷ one (bytes "getelementptr") (parseGepInst dest) ∷ one (bytes "phi") (parsePhi dest) ∷
     one (bytes "alloca") (parseAlloca dest) ∷ one (bytes "freeze") (parseFreeze dest) ∷ one (bytes "call") (parseCall dest) ∷
-    one (bytes "cmpxchg") (parseCmpxchg dest) ∷ one (bytes "atomicrmw") (refuse 18) ∷ one (bytes "extractvalue") (parseExtractvalue dest) ∷ []
+    one (bytes "cmpxchg") (parseCmpxchg dest) ∷ one (bytes "atomicrmw") (parseAtomicrmw dest) ∷ one (bytes "extractvalue") (parseExtractvalue dest) ∷ []
 
 tailArm : ℕ → Arm (List ℕ)
 tailArm dest = many tailWords (λ r. parseTailCall dest)

@@ -9,7 +9,7 @@ use Rattle.program.specs.Bytes.{bytes}
 use Rattle.program.specs.Prog.{Prog, ret, _>>=_}
 use Rattle.grammar.specs.Lexer.{refuse}
 use Rattle.grammar.specs.Values.{binOps}
-use Rattle.grammar.specs.Instructions.{fbinOps, instConvOps, tailWords, parseBin, parseFbin, parseFneg, parseConv, parseIcmp, parseFcmp, parseSelect, parseLoad, parseGepInst, parsePhi, parseAlloca, parseFreeze, parseCall, parseCmpxchg, parseExtractvalue, parseTailCall, parseStore, parseFence, parseRet, parseBr, parseSwitch, parseUnreachable}
+use Rattle.grammar.specs.Instructions.{fbinOps, instConvOps, tailWords, parseBin, parseFbin, parseFneg, parseConv, parseIcmp, parseFcmp, parseSelect, parseLoad, parseGepInst, parsePhi, parseAlloca, parseFreeze, parseCall, parseCmpxchg, parseAtomicrmw, parseExtractvalue, parseTailCall, parseStore, parseFence, parseRet, parseBr, parseSwitch, parseUnreachable}
 use Rattle.grammar.specs.Body.{Statement, instruction, asTerminator}
 
 -- 0 binary, 13 floating binary, 18 `fneg`, 19 conversions, 31 `icmp` and on, 43 the words before `call`; 46 is none
@@ -67,7 +67,7 @@ valueAt dest r =
                                                                                     | true ↦ parseCmpxchg dest
                                                                                     | false ↦
                                                                                         elim (eqb r 41) [
-                                                                                          | true ↦ refuse 18
+                                                                                          | true ↦ parseAtomicrmw dest
                                                                                           | false ↦
                                                                                               elim (eqb r 42) [
                                                                                                 | true ↦ parseExtractvalue dest

@@ -266,7 +266,7 @@ pub fn statement_rank(classes: &[u8; 256], text: &[u8], from: usize, to: usize) 
     statement_opcode(classes, text, from, to)
 }
 
-// An instruction behind `%x =` and its opcode (`parse_value_inst`). 18 for `atomicrmw`, 9 where no opcode stands there.
+// An instruction behind `%x =` and its opcode (`parse_value_inst`); 9 where no opcode stands there.
 pub fn value_inst(
     classes: &[u8; 256],
     text: &[u8],
@@ -307,7 +307,7 @@ pub fn value_inst(
         V_FREEZE => instructions::parse_freeze(classes, text, words, p, dest),
         V_CALL => calls::parse_call(classes, text, words, p, dest),
         V_CMPXCHG => memory::parse_cmpxchg(classes, text, words, p, dest),
-        V_ATOMICRMW => lexer::refuse(p, records::Q_LEFT_OUT),
+        V_ATOMICRMW => memory::parse_atomicrmw(classes, text, words, p, dest),
         _ => memory::parse_extractvalue(classes, text, words, p, dest),
     }
 }

@@ -11,11 +11,11 @@ use lib.ListN.{length, getD}
 use Rattle.program.specs.Bytes.{bytes, byte, table}
 use Rattle.program.specs.Prog.{Prog, ret, _>>=_}
 use Rattle.records.specs.Words.{header, node}
-use Rattle.records.specs.Kinds.{kind, Func, IntConst, Bin, FBin, FNeg, Conv, ICmp, FCmp, Select, Load, Store, Alloca, Gep, Phi, Call, Freeze, AtomicLoad, AtomicStore, Cmpxchg, ExtractValue, Fence, Ret, Br, Switch, Unreachable, Name}
+use Rattle.records.specs.Kinds.{kind, Func, IntConst, Bin, FBin, FNeg, Conv, ICmp, FCmp, Select, Load, Store, Alloca, Gep, Phi, Call, Freeze, AtomicLoad, AtomicStore, AtomicRmw, Cmpxchg, ExtractValue, Fence, Ret, Br, Switch, Unreachable, Name}
 use Rattle.records.specs.Limits.{turns, indexLimit, numberLimit, depthLimit, listDepth, listTurns}
-use Rattle.records.specs.Questions.{qToken, qType, qValue, qStatement, qOpcode, qPredicate, qTrailing, qCase, qLeftOut, qChildren}
+use Rattle.records.specs.Questions.{qToken, qType, qValue, qStatement, qOpcode, qPredicate, qTrailing, qCase, qChildren}
 use Rattle.records.specs.Details.{dNone, dCount, dAllocaAlign, dFunctionType, dCondition, dValue}
-use Rattle.grammar.specs.Lexer.{refuse, eatWs, byteIf, byteAtIf, wordIf, rankIf, tokenIf, expectToken, expectKeyword, skipKeyword, skipOne, skipAll, sameWord, rank, parseLocalName, skipParens, skipMetadataRef}
+use Rattle.grammar.specs.Lexer.{refuse, eatWs, byteIf, byteAtIf, wordIf, rankIf, tokenIf, expectToken, expectKeyword, skipKeyword, skipOne, skipAll, sameWord, rank, spelled, readWord, parseLocalName, skipParens, skipMetadataRef}
 use Rattle.grammar.specs.Numbers.{parseInt}
 use Rattle.grammar.specs.Attributes.{skipAttrs, skipCallCconv, skipArithFlags, skipFastMathFlags, convFlags}
 use Rattle.grammar.specs.Types.{Listed, listed, countOf, dotsOf, wordsOf, TypeOut, plain, opened, child, whole, typeChild, dotsList, parseTypeList, parseType}
@@ -188,20 +188,51 @@ parseLoad dest = access (kind Load) (kind AtomicLoad) 2 loadOperands dest
 unfoldable pub parseStore : Prog (List ℕ)
 parseStore = access (kind Store) (kind AtomicStore) 3 storeOperands 0
 
+-- T V, T V, of which the first is the pointer; laid out as type, pointer, value
+unfoldable pub pointerThenValue : Prog (List ℕ)
+pointerThenValue = do
+  p ← parseOperand
+  _ ← expectToken (byte ",")
+  t ← type qValue
+  v ← value
+  ret ((t ++ p) ++ v)
+
 -- read as pointer, type and comparand, new value; laid out as type, pointer, comparand, new value
 unfoldable pub parseCmpxchg : ℕ → Prog (List ℕ)
 parseCmpxchg dest = do
   _ ← skipKeyword (bytes "weak")
   _ ← skipKeyword (bytes "volatile")
-  p ← parseOperand
-  _ ← expectToken (byte ",")
-  t ← type qValue
-  c ← value
+  x ← pointerThenValue
   _ ← expectToken (byte ",")
   n ← parseOperand
   _ ← skipAtomicOrdering
   _ ← skipAtomicOrdering
-  ending (kind Cmpxchg) dNone 4 (dest ∷ (((t ++ p) ++ c) ++ n))
+  ending (kind Cmpxchg) dNone 4 (dest ∷ (x ++ n))
+
+-- a word among those of a table, by its rank
+unfoldable pub among : {A : Type 0} → List ℕ → List (List ℕ) → (ℕ → Prog A) → Prog A → Prog A
+among w ks p q = elim (ltb (rank w ks) (length ks)) [ true ↦ p (rank w ks) | false ↦ q ]
+
+-- `RmwOp`, in ast.rs order
+unfoldable pub rmwOps : List (List ℕ)
+rmwOps = table "xchg add sub and or xor nand"
+
+-- M-100: "The operations are the seven of `RmwOp`; any other word is refused as an unknown opcode, behind that word." A word is what an opcode is.
+unfoldable pub rmwOp : Prog ℕ
+rmwOp = do
+  _ ← eatWs
+  w ← readWord
+  among (spelled w) rmwOps ret (refuse qOpcode)
+
+-- M-100, behind its word: "optional `volatile`, the operation, pointer type and value, comma, type and value, optional scope, optional ordering,
+-- trailing part"
+unfoldable pub parseAtomicrmw : ℕ → Prog (List ℕ)
+parseAtomicrmw dest = do
+  _ ← skipKeyword (bytes "volatile")
+  op ← rmwOp
+  x ← pointerThenValue
+  _ ← skipAtomicOrdering
+  ending (kind AtomicRmw) op 3 (dest ∷ x)
 
 -- Question 15: "index below 2^32"
 unfoldable pub parseExtractvalue : ℕ → Prog (List ℕ)
@@ -378,17 +409,13 @@ fbinOps = table "fadd fsub fmul fdiv frem"
 unfoldable pub instConvOps : List (List ℕ)
 instConvOps = table "trunc zext sext ptrtoint inttoptr bitcast sitofp uitofp fptosi fptoui fpext fptrunc"
 
--- a word among those of a table, by its rank
-unfoldable pub among : {A : Type 0} → List ℕ → List (List ℕ) → (ℕ → Prog A) → Prog A → Prog A
-among w ks p q = elim (ltb (rank w ks) (length ks)) [ true ↦ p (rank w ks) | false ↦ q ]
-
 unfoldable pub isWordThen : {A : Type 0} → List ℕ → List ℕ → Prog A → Prog A → Prog A
 isWordThen w kw p q = elim (sameWord w kw) [ true ↦ p | false ↦ q ]
 
 unfoldable pub tailWords : List (List ℕ)
 tailWords = table "tail musttail notail"
 
--- `parse_value_inst`, behind its opcode w with quotes and escapes undone. 18: "Neither `atomicrmw` behind a `=`"; 9 where no opcode is w.
+-- `parse_value_inst`, behind its opcode w with quotes and escapes undone; 9 where no opcode is w. M-100: `atomicrmw` is "read behind a `=` only".
 unfoldable pub valueInst : ℕ → List ℕ → Prog (List ℕ)
 valueInst dest w =
     among w binOps (λ op. parseBin op dest)
@@ -405,7 +432,7 @@ valueInst dest w =
     (isWordThen w (bytes "freeze") (parseFreeze dest)
     (isWordThen w (bytes "call") (parseCall dest)
     (isWordThen w (bytes "cmpxchg") (parseCmpxchg dest)
-    (isWordThen w (bytes "atomicrmw") (refuse qLeftOut)
+    (isWordThen w (bytes "atomicrmw") (parseAtomicrmw dest)
     (isWordThen w (bytes "extractvalue") (parseExtractvalue dest)
     (among w tailWords (λ r. parseTailCall dest)
     (refuse qOpcode)))))))))))))))))

@@ -1,4 +1,4 @@
--- 01, "Known readings": the starred ones, one table with one theorem by computation on these very definitions.
+-- 01, "Known readings": the starred ones, and two of M-100; one table with one theorem by computation on these very definitions.
 -- Assumes nothing.
 use mathlib.Core.Path.{_≡_, refl}
 use mathlib.Core.List.{List, [], _∷_, _++_, map}
@@ -19,12 +19,13 @@ use Rattle.grammar.specs.Instructions as Instructions
 use Rattle.grammar.specs.Body as Body
 use Rattle.grammar.specs.Function
 
--- What is asked of a text: a full reading, a re-reading from an older text, a type or a value at its start.
+-- What is asked of a text: a full reading, a re-reading from an older text, a type, a value or a statement at its start.
 pub data Asked : Type 0 where
   function : List ℕ → Asked
   edit : List ℕ → List ℕ → Asked
   type : List ℕ → Asked
   value : List ℕ → Asked
+  statement : List ℕ → Asked
 
 abbrev pub parts : List ℕ → List ℕ
 parts [] = []
@@ -53,6 +54,13 @@ abbrev pub shownValue : Prog.Res (List ℕ) → List ℕ
 shownValue (Prog.ok v j) = 1 ∷ j ∷ v
 shownValue (Prog.closed ws j) = []
 shownValue (Prog.no-at q p) = 0 ∷ q ∷ p ∷ []
+
+abbrev pub shownStatement : Prog.Res Body.Statement → List ℕ
+shownStatement (Prog.ok (Body.label m) j) = []
+shownStatement (Prog.ok (Body.instruction ws) j) = 1 ∷ j ∷ ws
+shownStatement (Prog.ok (Body.terminator ws) j) = 2 ∷ j ∷ ws
+shownStatement (Prog.closed ws j) = []
+shownStatement (Prog.no-at q p) = 0 ∷ q ∷ p ∷ []
 
 -- Eleven words and a directory of three entries are lent to a function.
 unfoldable pub answer : Asked → List ℕ
@@ -93,12 +101,12 @@ unfolding
     Instructions.skipAtomicOrdering Instructions.twoOperands Instructions.binary Instructions.unary Instructions.parseBin Instructions.parseFbin Instructions.parseFneg
     Instructions.noParen Instructions.parseConv Instructions.icmpPreds Instructions.fcmpPreds Instructions.predicate Instructions.parseIcmp
     Instructions.parseFcmp Instructions.parseSelect Instructions.loadOperands Instructions.storeOperands Instructions.access
-    Instructions.parseLoad Instructions.parseStore Instructions.parseCmpxchg Instructions.parseExtractvalue Instructions.parseFence
-    Instructions.allocaNode Instructions.parseAlloca Instructions.gepInstIndices Instructions.parseGepInst
+    Instructions.parseLoad Instructions.parseStore Instructions.pointerThenValue Instructions.parseCmpxchg Instructions.among Instructions.rmwOps Instructions.rmwOp
+    Instructions.parseAtomicrmw Instructions.parseExtractvalue Instructions.parseFence Instructions.allocaNode Instructions.parseAlloca Instructions.gepInstIndices Instructions.parseGepInst
     Instructions.phiItems Instructions.parsePhi Instructions.parseFreeze Instructions.argItem Instructions.parseArgList
     Instructions.funcNode Instructions.callRest Instructions.callOf Instructions.parseCall Instructions.parseTailCall Instructions.parseRet
     Instructions.target Instructions.parseBr Instructions.caseInt Instructions.switchCases Instructions.switchNode
-    Instructions.parseSwitch Instructions.parseUnreachable Instructions.fbinOps Instructions.instConvOps Instructions.among
+    Instructions.parseSwitch Instructions.parseUnreachable Instructions.fbinOps Instructions.instConvOps
     Instructions.isWordThen Instructions.tailWords Instructions.valueInst Instructions.plainInst
     Body.parseInst Body.asTerminator Body.opcode Body.statementOf Body.wordStatement Body.parseStatement Body.finishBlock Body.overAt
     Body.parseBody Body.parseBlock Body.paramOf Body.parseParam Body.parseParamList Body.headNode Body.parseHead
@@ -107,6 +115,7 @@ answer (function text) = shownLeft [] (Function.readingOf 11 6 text)
 answer (edit older newer) = againFrom older newer (Function.readingOf 11 6 older)
 answer (type text) = shownType (Prog.run (Types.parseType Limits.depthLimit) 0 text)
 answer (value text) = shownValue (Prog.run (Values.parseValue Limits.depthLimit) 0 text)
+answer (statement text) = shownStatement (Prog.run Body.parseStatement 0 text)
 
 abbrev pub asked : List Asked
 asked =
@@ -126,6 +135,8 @@ asked =
     ∷ value (bytes "1.3")
     ∷ value (bytes "1e23")
     ∷ function (bytes "void @f(){a: b: ret void}")
+    ∷ statement (bytes "%a=atomicrmw or ptr @p,i8 1")
+    ∷ statement (bytes "%a=atomicrmw max ptr @p,i8 1")
     ∷ []
 
 -- The headers of what stands there: a head with one child, a block with one, `ret` without and with a value.
@@ -154,6 +165,10 @@ known =
     ∷ (0 ∷ 17 ∷ 4 ∷ [])
     -- one block, whose label is the byte at 3 of its piece: `b`
     ∷ (3 ∷ 0x3C0A_0001_0000_0003 ∷ 0x0000_0006_0000_0001 ∷ 0x0100_0000_0000_0001 ∷ 0x3D00_0001_0000_0003 ∷ 0x0000_0003_0000_0001 ∷ 0x3400_0000_0000_0001 ∷ 0 ∷ 0 ∷ 0 ∷ 0 ∷ 0 ∷ 0 ∷ 10 ∷ 0 ∷ 3 ∷ 10 ∷ 14 ∷ 3 ∷ 3 ∷ 24 ∷ 1 ∷ 6 ∷ 0 ∷ [])
+    -- kind 48, rank 4, 3 children, 9 words; `a`; i8; the pointer, `p` at 21; 1
+    ∷ (1 ∷ 27 ∷ 0x3004_0003_0000_0009 ∷ 0x0000_0001_0000_0001 ∷ 0x0200_0000_0000_0002 ∷ 8 ∷ 0x1100_0000_0000_0002 ∷ 0x0000_0015_0000_0001 ∷ 0x1200_0000_0000_0003 ∷ 0 ∷ 1 ∷ [])
+    -- 9 behind `max`
+    ∷ (0 ∷ 9 ∷ 16 ∷ [])
     ∷ []
 
 pub known-readings : map answer asked ≡ known

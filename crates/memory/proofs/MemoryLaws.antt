@@ -1,16 +1,21 @@
--- The laws of the instructions on memory: what ends in a type, an alignment that may be absent, the indices of a getelementptr.
+-- The laws of the instructions on memory: an alignment that may be absent, the indices of a getelementptr, a word among those of a table.
 -- Assumes nothing.
 use mathlib.Core.Path.{_≡_, refl, subst}
 use mathlib.Core.Bool.{Bool, true, false}
 use mathlib.Core.List.{List, [], _∷_, _++_}
 use Prim.Native.Nat.{ℕ, zero, suc, _+_, _-_, _≤_, _<_}
+use native.Mathlib.Omega.{arith}
+use lib.Dec.{ltb}
+use lib.ListN.{length}
+use borrow.Author.Tests.{lt-ltb, le-ltb}
+use Rattle.program.specs.Prog.{Prog}
 use Rattle.records.specs.Limits.{depthLimit}
-use Rattle.grammar.specs.Lexer.{eatWs, skipMetadataRef}
+use Rattle.grammar.specs.Lexer.{eatWs, rank, skipMetadataRef}
 use Rattle.grammar.specs.Types.{listed, parseType}
 use Rattle.grammar.specs.Values.{pairChild, parseValue}
-use Rattle.grammar.specs.Instructions.{parseTrailing, gepInstIndices}
+use Rattle.grammar.specs.Instructions.{parseTrailing, among, gepInstIndices}
 use Rattle.lexer.specs.Step.{looksP, passed}
-use Rattle.lexer.specs.Reads.{Leads, made, same, reach, Gives, Counts}
+use Rattle.lexer.specs.Reads.{Leads, made, same, reach, Gives, Counts, Aim, Finds}
 use Rattle.lexer.specs.declared.Parsed.{Parsed}
 use Rattle.lexer.proofs.Laws.{done, stay, then, val, byte-yes, byte-no, token-yes, token-no, more, no-more}
 use Rattle.lexer.proofs.Children.{if-there}
@@ -46,3 +51,16 @@ module _ {text : List ℕ} {p0 q : Parsed} {v : List ℕ} (u n : ℕ) (ws : List
       unfolding gepInstIndices
       indices-more m {q4} {v4} y2 r = more (λ z. gepInstIndices z n ws) u pos (token-yes _ _ gw l y x (val _ gv (byte-no _ _ l2 y2 (then _ (r .0) (λ t. if-there (λ i j z. z) (λ cur o.
           subst (λ (j : ℕ). Leads (gepInstIndices (u - 1) j (ws ++ t)) 3 (ws ++ t) (reach (gepInstIndices (u - 1) m) text p0) text p0 q4 v4 q4 v4) (r .1 cur o) (stay (gepInstIndices (u - 1) m))))))))
+
+-- ---- a word among those of a table
+module _ {A : Type 0} (w : List ℕ) (ks : List (List ℕ)) (f : ℕ → Prog A) (g : Prog A) {r : ℕ} (e : r ≡ rank w ks) {E : Aim A} {text : List ℕ} {p q : Parsed} where
+  -- whichever way the test goes
+  either : (b : Bool) → ltb (rank w ks) (length ks) ≡ b → Finds (elim b [ true ↦ f (rank w ks) | false ↦ g ]) E text p q → Finds (among w ks f g) E text p q
+  unfolding among
+  either b t h = rw (among, t) h
+
+  pub among-yes : r < length ks → Finds (f r) E text p q → Finds (among w ks f g) E text p q
+  among-yes l h = either true (lt-ltb (rank w ks) (length ks) (omega arith)) (subst (λ (i : ℕ). Finds (f i) E text p q) e h)
+
+  pub among-no : length ks ≤ r → Finds g E text p q → Finds (among w ks f g) E text p q
+  among-no l h = either false (le-ltb (rank w ks) (length ks) (omega arith)) h

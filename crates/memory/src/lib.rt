@@ -6,11 +6,12 @@ ghost use mathlib.Core.Path.{_≡_};
 ghost use mathlib.Core.List.{[]};
 ghost use Prim.Native.Nat.{ℕ, _+_, _*_};
 ghost use Rattle.program.specs.Bytes.{bytes};
-ghost use Rattle.grammar.specs.Lexer.{skipKeyword};
-ghost use Rattle.grammar.specs.Instructions.{skipAtomicOrdering, loadOperands, storeOperands, access, parseLoad, parseStore, gepInstIndices, parseGepInst, parseCmpxchg, clauses, parseAlloca, parseExtractvalue, parseFence};
+ghost use Rattle.grammar.specs.Lexer.{skipKeyword, rank, spelled};
+ghost use Rattle.grammar.specs.Instructions.{skipAtomicOrdering, loadOperands, storeOperands, access, parseLoad, parseStore, gepInstIndices, parseGepInst, pointerThenValue, parseCmpxchg, rmwOps, rmwOp, parseAtomicrmw, clauses, parseAlloca, parseExtractvalue, parseFence};
 ghost use Rattle.records.specs.Details.{dCount, dAllocaAlign};
 ghost use Rattle.lexer.specs.Table.{Classes};
 ghost use Rattle.lexer.specs.Step.{wordP};
+ghost use Rattle.names.specs.Names.{part, rawWord};
 ghost use Rattle.lexer.specs.Reads.{Leads, Gives, made, same, Reads};
 ghost use Rattle.operands.specs.Trailing.{alignOf};
 ghost use Rattle.memory.specs.Access.{accessOperands};
@@ -208,7 +209,22 @@ pub fn parse_store(classes: &[u8; 256], text: &[u8], words: &mut [u64], p: Parse
     parse_access(classes, text, words, p, 0, form)
 }
 
-// `cmpxchg T V, T V, T V ..`: the pointer is read first and stands behind the comparand's type.
+// T V, T V: the pointer is read first and stands behind the value's type.
+fn pointer_then_value(classes: &[u8; 256], text: &[u8], words: &mut [u64], p: Parsed) -> Parsed
+    requires { ⌜ Classes (now classes) ⌝ }
+    ensures { λ r. ⌜ Leads pointerThenValue 0 [] (richly (now (text .entry)) (made same (now (text .entry)) p)) (now (text .entry)) p p (now (words .entry)) r (now (words .exit)) ⌝ }
+{
+    let q = operands::pass_operand(classes, text, p);
+    let q1 = writer::join(p, q);
+    let q2 = lexer::expect_token(classes, text, q1, b',');
+    let q3 = types::parse_type(classes, text, words, q2, records::DEPTH_LIMIT);
+    let z = operands::resume(q3, p);
+    let z1 = operands::parse_operand(classes, text, words, z);
+    let q4 = operands::resume(z1, q3);
+    values::parse_value(classes, text, words, q4, records::DEPTH_LIMIT)
+}
+
+// `cmpxchg T V, T V, T V ..`
 pub fn parse_cmpxchg(
     classes: &[u8; 256],
     text: &[u8],
@@ -221,15 +237,8 @@ pub fn parse_cmpxchg(
 {
     let mut q = writer::begin(words, p, dest);
     q = skip_weak(classes, text, q);
-    let p1 = skip_volatile(classes, text, q);
-    q = operands::pass_operand(classes, text, p1);
-    q = writer::join(p1, q);
-    q = lexer::expect_token(classes, text, q, b',');
-    q = types::parse_type(classes, text, words, q, records::DEPTH_LIMIT);
-    let mut z = operands::resume(q, p1);
-    z = operands::parse_operand(classes, text, words, z);
-    q = operands::resume(z, q);
-    q = values::parse_value(classes, text, words, q, records::DEPTH_LIMIT);
+    q = skip_volatile(classes, text, q);
+    q = pointer_then_value(classes, text, words, q);
     q = lexer::expect_token(classes, text, q, b',');
     q = operands::parse_operand(classes, text, words, q);
     q = skip_atomic_ordering(classes, text, q);
@@ -244,6 +253,60 @@ pub fn parse_cmpxchg(
         records::D_NONE,
         4,
     )
+}
+
+// An operation of `atomicrmw`, as its rank in ast.rs order.
+struct RmwOp {
+    p: Parsed,
+    r: u8,
+}
+
+// How many operations there are.
+const RMW_OPS: usize = 7;
+
+// The rank of the operation that stands from a place to another.
+fn rmw_rank(classes: &[u8; 256], text: &[u8], from: usize, to: usize) -> usize
+    requires { ⌜ Classes (now classes) ⌝ }
+    ensures { λ r. ⌜ r ≡ rank (spelled (rawWord (part (now (text .entry)) from to))) rmwOps ⌝ }
+{
+    let lens: [u8; 7] = [4, 3, 3, 3, 2, 3, 4];
+    spelling::spelled_rank(classes, text, from, to, &lens, b"xchgaddsubandorxornand")
+}
+
+// The operation's word, quoted or not; 9 behind any other.
+fn rmw_op(classes: &[u8; 256], text: &[u8], p: Parsed) -> RmwOp
+    requires { ⌜ Classes (now classes) ⌝ }
+    ensures { λ r. ⌜ Gives rmwOp (r .r) (now (text .entry)) p (r .p) ⌝ }
+{
+    let q = lexer::eat_ws(classes, text, p);
+    let x = names::read_word(classes, text, q);
+    let q1 = x.p;
+    let r = rmw_rank(classes, text, x.start, x.end);
+    if r < RMW_OPS {
+        return RmwOp { p: q1, r: r as u8 };
+    }
+    let q2 = lexer::refuse(q1, records::Q_OPCODE);
+    RmwOp { p: q2, r: 0 }
+}
+
+// `atomicrmw OP T V, T V ..`
+pub fn parse_atomicrmw(
+    classes: &[u8; 256],
+    text: &[u8],
+    words: &mut [u64],
+    p: Parsed,
+    dest: u64,
+) -> Parsed
+    requires { ⌜ Classes (now classes) ⌝ }
+    ensures { λ r. ⌜ Leads (parseAtomicrmw dest) 3 [] (richly (now (text .entry)) (made same (now (text .entry)) p)) (now (text .entry)) p p (now (words .entry)) r (now (words .exit)) ⌝ }
+{
+    let mut q = writer::begin(words, p, dest);
+    q = skip_volatile(classes, text, q);
+    let op = rmw_op(classes, text, q);
+    q = op.p;
+    q = pointer_then_value(classes, text, words, q);
+    q = skip_atomic_ordering(classes, text, q);
+    operands::end(classes, text, words, p, q, records::K_ATOMIC_RMW, op.r, 3)
 }
 
 // `extractvalue T V, N`: the number's slot is filled behind the operand.

@@ -56,7 +56,7 @@ qDepth = 16
 abbrev pub qDecimal : ℕ  -- Is a valid decimal supported?
 qDecimal = 17
 
-abbrev pub qLeftOut : ℕ  -- Neither `atomicrmw` behind a `=` nor a quoted attribute?
+abbrev pub qLeftOut : ℕ  -- No quoted attribute? (M-100: "18 now means a quoted attribute alone")
 qLeftOut = 18
 
 -- (19: behind the next; a dropped type list counts with its return type, the tail has no node)

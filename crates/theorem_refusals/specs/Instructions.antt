@@ -9,13 +9,13 @@ use Rattle.program.specs.Prog.{Prog}
 use Rattle.records.specs.Words.{header}
 use Rattle.records.specs.Kinds.{kind, IntConst}
 use Rattle.records.specs.Limits.{turns, depthLimit, listTurns, listDepth}
-use Rattle.grammar.specs.Lexer.{sameWord, rank}
+use Rattle.grammar.specs.Lexer.{sameWord, rank, spelled}
 use Rattle.grammar.specs.Attributes.{convFlags}
 use Rattle.grammar.specs.Types.{TypeOut, plain, opened}
 use Rattle.grammar.specs.Values.{parseTypedVal}
-use Rattle.grammar.specs.Instructions.{type, value, labelNode, parseOperand, clausesIn, parseTrailing, ending, orderings, skipAtomicOrdering, twoOperands, binary, unary, parseBin, parseFbin, parseFneg, noParen, parseConv, predicate, parseIcmp, parseFcmp, parseSelect, loadOperands, access, parseLoad, storeOperands, parseStore, parseCmpxchg, parseExtractvalue, parseFence, parseAlloca, gepInstIndices, parseGepInst, phiItems, parsePhi, parseFreeze, argItem, parseArgList, funcNode, callRest, callOf, parseCall, parseTailCall, parseRet, target, parseBr, caseInt, switchCases, parseSwitch, parseUnreachable, among, isWordThen, valueInst, plainInst}
+use Rattle.grammar.specs.Instructions.{type, value, labelNode, parseOperand, clausesIn, parseTrailing, ending, orderings, skipAtomicOrdering, twoOperands, binary, unary, parseBin, parseFbin, parseFneg, noParen, parseConv, predicate, parseIcmp, parseFcmp, parseSelect, loadOperands, access, parseLoad, storeOperands, parseStore, pointerThenValue, parseCmpxchg, rmwOps, rmwOp, parseAtomicrmw, parseExtractvalue, parseFence, parseAlloca, gepInstIndices, parseGepInst, phiItems, parsePhi, parseFreeze, argItem, parseArgList, funcNode, callRest, callOf, parseCall, parseTailCall, parseRet, target, parseBr, caseInt, switchCases, parseSwitch, parseUnreachable, among, isWordThen, valueInst, plainInst}
 use Rattle.theorem_refusals.specs.Inside.{asked, Inside, Any, then, then-with, done, either}
-use Rattle.theorem_refusals.specs.Lexer.{in-refuse, in-eatWs, in-byteIf, in-byteAtIf, in-wordIf, in-rankIf, in-tokenIf, in-expectToken, in-expectKeyword, in-skipKeyword, in-skipOne, in-skipAll, in-parseLocalName, in-skipParens, in-skipMetadataRef}
+use Rattle.theorem_refusals.specs.Lexer.{in-refuse, in-eatWs, in-byteIf, in-byteAtIf, in-wordIf, in-rankIf, in-tokenIf, in-expectToken, in-expectKeyword, in-skipKeyword, in-skipOne, in-skipAll, in-readWord, in-parseLocalName, in-skipParens, in-skipMetadataRef}
 use Rattle.theorem_refusals.specs.Numbers.{in-parseInt}
 use Rattle.theorem_refusals.specs.Attributes.{in-skipAttrs, in-skipCallCconv, in-skipArithFlags, in-skipFastMathFlags}
 use Rattle.theorem_refusals.specs.Types.{in-whole, in-child, in-typeChild, in-dotsList, in-parseTypeList, in-parseType}
@@ -133,12 +133,28 @@ in-parseStore : {n : ℕ} → Inside n Any parseStore
 unfolding parseStore
 in-parseStore = in-access _ _ 3 in-storeOperands 0
 
+in-pointerThenValue : {n : ℕ} → Inside n Any pointerThenValue
+unfolding pointerThenValue
+in-pointerThenValue = then in-parseOperand λ _. then (in-expectToken _) λ _. then (in-type 6 tt) λ _. then in-value λ _. done
+
 in-parseCmpxchg : {n : ℕ} (dest : ℕ) → Inside n Any (parseCmpxchg dest)
 unfolding parseCmpxchg
 in-parseCmpxchg dest =
-    then (in-skipKeyword _) λ _. then (in-skipKeyword _) λ _. then in-parseOperand λ _. then (in-expectToken _) λ _.
-    then (in-type 6 tt) λ _. then in-value λ _. then (in-expectToken _) λ _. then in-parseOperand λ _.
+    then (in-skipKeyword _) λ _. then (in-skipKeyword _) λ _. then in-pointerThenValue λ _. then (in-expectToken _) λ _. then in-parseOperand λ _.
     then in-skipAtomicOrdering λ _. then in-skipAtomicOrdering λ _. in-ending _ _ _ _
+
+in-among : {A : Type 0} {P : A → Type 0} {n : ℕ} {f : ℕ → Prog A} {g : Prog A} (w : List ℕ) (table : List (List ℕ)) → ((r : ℕ) → Inside n P (f r)) → Inside n P g → Inside n P (among w table f g)
+unfolding among
+in-among w table h k = either (ltb (rank w table) (length table)) (h (rank w table)) k
+
+in-rmwOp : {n : ℕ} → Inside n Any rmwOp
+unfolding rmwOp
+in-rmwOp = then in-eatWs λ _. then in-readWord λ w. in-among (spelled w) rmwOps (λ r. done) (in-refuse 9 tt)
+
+in-parseAtomicrmw : {n : ℕ} (dest : ℕ) → Inside n Any (parseAtomicrmw dest)
+unfolding parseAtomicrmw
+in-parseAtomicrmw dest =
+    then (in-skipKeyword _) λ _. then in-rmwOp λ _. then in-pointerThenValue λ _. then in-skipAtomicOrdering λ _. in-ending _ _ _ _
 
 in-parseExtractvalue : {n : ℕ} (dest : ℕ) → Inside n Any (parseExtractvalue dest)
 unfolding parseExtractvalue
@@ -248,10 +264,6 @@ pub in-parseUnreachable : {n : ℕ} → Inside n Any parseUnreachable
 unfolding parseUnreachable
 in-parseUnreachable = in-ending _ _ _ _
 
-in-among : {A : Type 0} {P : A → Type 0} {n : ℕ} {f : ℕ → Prog A} {g : Prog A} (w : List ℕ) (table : List (List ℕ)) → ((r : ℕ) → Inside n P (f r)) → Inside n P g → Inside n P (among w table f g)
-unfolding among
-in-among w table h k = either (ltb (rank w table) (length table)) (h (rank w table)) k
-
 pub in-isWordThen : {A : Type 0} {P : A → Type 0} {n : ℕ} {f g : Prog A} (w v : List ℕ) → Inside n P f → Inside n P g → Inside n P (isWordThen w v f g)
 unfolding isWordThen
 in-isWordThen w v h k = either (sameWord w v) h k
@@ -273,7 +285,7 @@ in-valueInst dest w =
     (in-isWordThen w _ (in-parseFreeze dest)
     (in-isWordThen w _ (in-parseCall dest)
     (in-isWordThen w _ (in-parseCmpxchg dest)
-    (in-isWordThen w _ (in-refuse 18 tt)
+    (in-isWordThen w _ (in-parseAtomicrmw dest)
     (in-isWordThen w _ (in-parseExtractvalue dest)
     (in-among w _ (λ r. in-parseTailCall dest)
     (in-refuse 9 tt)))))))))))))))))

@@ -53,19 +53,22 @@ pub fn full(port: &dyn Port, text: &[u8]) -> Result<Outcome, String> {
     Ok(got)
 }
 
-/// Tree or refusal and place, and the words' own structure.
+/// Tree or refusal and place, and the words' own structure; of a text that is left out (M-100) the
+/// structure alone.
 pub fn beside_the_rust(text: &[u8], got: &Outcome) -> Result<(), String> {
     let Parsed { number, place, entries } = got.answer;
+    let form = || canonical_from_words(text, got.words.words(), got.directory.words(), entries as usize);
     match judge(text) {
         Answer::Accepted(tree) if number == 0 => {
-            let form =
-                canonical_from_words(text, got.words.words(), got.directory.words(), entries as usize)?;
+            let form = form()?;
             let expected = canonical_from_tree(&tree);
             if form != expected {
                 return Err(format!("tree {form}, expected {expected}"));
             }
             Ok(())
         }
+        Answer::LeftOut if number == 0 => form().map(|_| ()),
+        Answer::LeftOut => Ok(()),
         Answer::Refused { number: n, place: p } | Answer::Outside { number: n, place: p }
             if (number, place) == (n, p as u64) =>
         {

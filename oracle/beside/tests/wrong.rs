@@ -3,6 +3,7 @@
 use beside::port::{Model, Parsed, Port, Reparsed};
 use beside::{check, reread, rooms};
 use judge::answer::on_big_stack;
+use judge::left_out;
 use texts::rng::Rng;
 use texts::Texts;
 
@@ -119,7 +120,7 @@ impl Port for Wrong {
 fn caught(port: Wrong) -> bool {
     let mut texts = Texts::new(7);
     let mut rng = Rng::new(8);
-    (0..300).any(|_| {
+    (0..3000).any(|_| {
         let (_, text) = texts.draw();
         let edited = reread::edit(&mut rng, &text).is_some_and(|call| reread::check(&port, &call).is_err());
         edited || check::full(&port, &text).is_err() || rooms::check(&port, &text).is_err()
@@ -138,6 +139,17 @@ fn wrong_readers_are_caught() {
             assert!(caught(wrong), "{wrong:?}");
         }
     });
+}
+
+/// Where the Rust is not asked (M-100) the model judges, in re-reading too.
+#[test]
+fn left_out_texts_are_judged() {
+    let text = b"void @f(){%x = atomicrmw add ptr %p, i8 1 ret void}";
+    let newer = b"void @f(){%x = atomicrmw xor ptr %p, i8 1 ret void}";
+    assert!(left_out(text) && left_out(newer));
+    assert!(check::full(&RefusesAll, text).is_err());
+    let call = reread::call(text, newer.to_vec(), (0, 0)).expect("a text that is read");
+    assert!(reread::check(&HandsBack, &call).is_err());
 }
 
 #[test]

@@ -3,6 +3,7 @@
 use crate::domain;
 use crate::messages;
 use crate::position::position;
+use asked::parser::LEFT_OUT;
 use std::cell::Cell;
 use std::fmt;
 use std::panic::{catch_unwind, AssertUnwindSafe};
@@ -21,6 +22,8 @@ pub enum Answer {
         number: u64,
         place: usize,
     },
+    /// The reader reaches an `atomicrmw` behind a `=` (M-100), which is never compared with the Rust.
+    LeftOut,
     /// The Rust panicked, or gave something that no table knows: never inside the domain.
     Broken(String),
 }
@@ -32,25 +35,28 @@ impl fmt::Display for Answer {
             Answer::Accepted(function) => write!(f, "A {}", crate::canonical_from_tree(function)),
             Answer::Refused { number, place } => write!(f, "R {number} {place}"),
             Answer::Outside { number, place } => write!(f, "X {number} {place}"),
+            Answer::LeftOut => write!(f, "X {LEFT_OUT}"),
             Answer::Broken(why) => write!(f, "X broken: {why}"),
         }
     }
 }
 
 /// What the Rust says, once 01's own questions have let the text through; where it meets a bare
-/// `dead_on_return` (M-101), what it says with that mended.
+/// `dead_on_return` (M-101), what it says with that mended. A text that reaches an `atomicrmw` is
+/// not given to it.
 pub fn judge(text: &[u8]) -> Answer {
     if let Some((number, place)) = domain::whole_text(text) {
         return Answer::Outside { number, place };
     }
     let text = std::str::from_utf8(text).expect("bytes up to 127");
     if !domain::surely_inside(text.as_bytes()) {
-        let Asked { answer, bare } = asked(text);
-        if let Answer::Refused { number: number @ 15.., place } = answer {
-            return Answer::Outside { number, place };
-        }
-        if let Some(place) = bare {
-            return mended(answer, place, rust(text));
+        match asked(text) {
+            Asked { answer: Answer::Refused { number: number @ 15.., place }, .. } => {
+                return Answer::Outside { number, place };
+            }
+            Asked { answer: Answer::LeftOut, .. } => return Answer::LeftOut,
+            Asked { answer, bare: Some(place) } => return mended(answer, place, rust(text)),
+            Asked { bare: None, .. } => {}
         }
     }
     rust(text)
@@ -70,6 +76,11 @@ pub fn reads_on(text: &[u8]) -> bool {
     text.contains(domain::BOTH_WAYS) && asked(text).bare.is_some()
 }
 
+/// Whether the reader reaches an `atomicrmw` behind a `=`, so that the Rust is not asked (M-100).
+pub fn left_out(text: &[u8]) -> bool {
+    domain::may_be_left_out(text) && matches!(judge(text), Answer::LeftOut)
+}
+
 /// The test copy's answer, whatever the text. Nested some 17,000 deep it aborts the process.
 pub fn rust(text: &str) -> Answer {
     survive(|| {
@@ -87,7 +98,7 @@ pub struct Asked {
     pub bare: Option<usize>,
 }
 
-/// The Rust's answer, but with questions 15 to 19 and M-101 put in.
+/// The Rust's answer, but with questions 15 to 19, M-100 and M-101 put in.
 pub fn asked(text: &str) -> Asked {
     let mut bare = None;
     let answer = survive(|| {
@@ -96,6 +107,7 @@ pub fn asked(text: &str) -> Asked {
         bare = parser.bare;
         match result {
             Ok(function) => Answer::Accepted(Box::new(function)),
+            Err(e) if e.msg == LEFT_OUT => Answer::LeftOut,
             Err(e) => refused(text, &e.msg, parser.place(), e.pos.line_column()),
         }
     });

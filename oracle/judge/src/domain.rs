@@ -1,5 +1,5 @@
-//! Which texts need not be asked questions 1, 2 and 15 to 19, nor be mended: a quick look that is
-//! sure of its yes.
+//! Which texts need not be asked questions 1, 2 and 15 to 19, nor be mended or left out: a quick
+//! look that is sure of its yes.
 
 /// Question 16: the deepest level that is read.
 pub use asked::parser::DEPTH;
@@ -10,6 +10,9 @@ pub const LENGTH: usize = 16_777_216;
 /// M-101: the attribute that may stand bare or with parentheses; the Rust asks for parentheses.
 pub const BOTH_WAYS: &str = "dead_on_return";
 
+/// M-100: the opcode that is never compared with the Rust.
+pub const NOT_COMPARED: &str = "atomicrmw";
+
 /// The place of question 1 or 2, if the text meets it.
 pub fn whole_text(text: &[u8]) -> Option<(u64, usize)> {
     if text.len() > LENGTH {
@@ -18,8 +21,8 @@ pub fn whole_text(text: &[u8]) -> Option<(u64, usize)> {
     text.iter().position(|&b| b > 127).map(|place| (2, place))
 }
 
-/// True only if no reading of the text can meet 15 to 19 or a bare attribute of M-101. False says
-/// nothing.
+/// True only if no reading of the text can meet 15 to 19, M-100's opcode or a bare attribute of
+/// M-101. False says nothing.
 pub fn surely_inside(text: &[u8]) -> bool {
     // 65,536 children take more bytes than this; so does a count of openers that stays small.
     text.len() < 65_536 && few_openers(text) && no_forbidden(text) && small_numbers(text)
@@ -31,10 +34,20 @@ fn few_openers(text: &[u8]) -> bool {
     text.iter().filter(opener).count() < DEPTH
 }
 
-/// No quote, hence no quoted attribute or opcode, no `atomicrmw`, and no attribute of M-101.
+fn has(text: &[u8], word: &str) -> bool {
+    text.windows(word.len()).any(|w| w == word.as_bytes())
+}
+
+/// False only if no reading of the text can meet M-100's opcode: neither the word stands in it nor an
+/// escape, which may stand for a letter. True says nothing.
+pub fn may_be_left_out(text: &[u8]) -> bool {
+    has(text, NOT_COMPARED) || text.contains(&b'\\')
+}
+
+/// No quote, hence no quoted attribute or opcode and no escape, no opcode of M-100, and no attribute
+/// of M-101.
 fn no_forbidden(text: &[u8]) -> bool {
-    let has = |word: &str| text.windows(word.len()).any(|w| w == word.as_bytes());
-    !text.contains(&b'"') && !has("atomicrmw") && !has(BOTH_WAYS)
+    !text.contains(&b'"') && !has(text, NOT_COMPARED) && !has(text, BOTH_WAYS)
 }
 
 /// Every run of digits is within the strictest limit that can concern it.
@@ -78,9 +91,11 @@ mod tests {
     #[test]
     fn sure_and_not() {
         assert!(surely_inside(b"void @f(){ret i32 7}"));
-        for bad in ["i0", "i8388609", "99999999", "1e23", "\"x\"", "atomicrmw", BOTH_WAYS] {
+        for bad in ["i0", "i8388609", "99999999", "1e23", "\"x\"", NOT_COMPARED, BOTH_WAYS] {
             assert!(!surely_inside(bad.as_bytes()));
         }
         assert_eq!(whole_text(b"a\x80"), Some((2, 1)));
+        assert!(!may_be_left_out(b"%x = \"add\" i8 1, 2"));
+        assert!(may_be_left_out(b"%x = \"\\61tomicrmw\" "));
     }
 }

@@ -33,7 +33,7 @@ const NUMBERS: &[(&str, u64)] = &[
     ("question 19", 19),
 ];
 
-/// The number of a message of the function part; none for the messages that 18 shuts out.
+/// The number of a message of the function part; none for the messages that 18 and M-100 shut out.
 pub fn number(message: &str) -> Option<u64> {
     let says = |&&(start, _): &&(&str, u64)| message.starts_with(start);
     NUMBERS.iter().find(says).map(|&(_, n)| n)

@@ -99,6 +99,7 @@ fn shape(kind: u64, detail: u64) -> Option<(Slot, Shape)> {
         44 if detail == 0 => (Inst, open(&[MaybeName], two, two, 0)),
         44 => (Inst, open(&[MaybeName], &[Type, Func, Value], two, 1)),
         47 => (Inst, plain(&[NoName], three, 0)),
+        48 => (Inst, plain(&[LOCAL], three, 6)),
         49 => (Inst, plain(&[LOCAL], &[Type, Value, Value, Value], 0)),
         50 => (Inst, plain(&[LOCAL, Index], &[Value], 0)),
         51 => (Inst, plain(&[NoName], &[], 0)),

@@ -30,12 +30,13 @@ fn hex(text: &str) -> String {
 
 #[test]
 fn answers() {
-    let texts = ["void @f(){ret void}", "", "i0 @f(){}", "é", "void @f(){ret double +qnan}"];
+    let rmw = "void @f(){%x = atomicrmw ?";
+    let texts = ["void @f(){ret void}", "", "i0 @f(){}", "é", rmw, "void @f(){ret double +qnan}"];
     let input: String = texts.iter().map(|t| hex(t) + "\n").collect();
     let output = run(ORACLE, &[], &input);
     assert!(output.status.success());
     let expected = "A 3c0a000100000003,n66,100000000000001,3d00000100000003,n30,3400000000000001\n\
-        R 5 0\nX 15 1\nX 2 0\n\
+        R 5 0\nX 15 1\nX 2 0\nX left out for atomicrmw\n\
         A 3c0a000100000003,n66,100000000000001,3d00000100000006,n30,3401000200000004,400000000000001,1300000000000002,q\n";
     assert_eq!(String::from_utf8_lossy(&output.stdout), expected);
 }
@@ -74,4 +75,14 @@ fn a_wrong_vector() {
     let output = run(VECTORS, &["-"], "61 R 5 0\n61 R 5 1\n");
     assert_eq!(output.status.code(), Some(1));
     assert!(String::from_utf8_lossy(&output.stdout).contains("vector 2: the Rust: R 5 0"));
+}
+
+/// Whatever the line answers, the Rust is not asked.
+#[test]
+fn left_out() {
+    let input = format!("61 R 5 0\n{} R 5 1\n", hex("void @f(){%x = \"\\61tomicrmw\" ?"));
+    let output = run(VECTORS, &["-"], &input);
+    assert!(output.status.success());
+    let says = String::from_utf8_lossy(&output.stdout);
+    assert!(says.contains("2 vectors, 0 disagreements, 1 left out for atomicrmw"), "{says}");
 }

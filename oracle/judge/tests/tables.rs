@@ -100,3 +100,12 @@ fn operators() {
     assert_eq!(table("Instructions", "fbinOps"), arms("parse_fbin"));
     assert_eq!(table("Instructions", "instConvOps"), arms("parse_conv"));
 }
+
+/// M-100: "the seven of `RmwOp`", in ast.rs order.
+#[test]
+fn rmw_operators() {
+    let ast = read("../uvclang/src/ast.rs");
+    let cases = between(&ast, "pub enum RmwOp\n{", "}").split(',').map(|case| case.trim().to_lowercase());
+    let cases: Vec<String> = cases.filter(|case| !case.is_empty()).collect();
+    assert_eq!(table("Instructions", "rmwOps"), cases);
+}

@@ -6,16 +6,18 @@ use crate::reread::{reparse_define, Reread};
 use judge::vector::{Expected, Vector};
 use judge::{canonical_from_tree, canonical_from_words, judge, Answer};
 
-/// How the two differ on a text, if they do. Outside the domain the asked copy answers.
+/// How the two differ on a text, if they do. Outside the domain the asked copy answers; of a text that
+/// is left out (M-100) only the words' structure is looked at.
 pub fn difference(text: &[u8]) -> Option<String> {
+    let form = |r: &Records| canonical_from_words(text, &r.words, &r.directory, r.entries());
     match (records(text), judge(text)) {
-        (Ok(r), Answer::Accepted(tree)) => {
-            match canonical_from_words(text, &r.words, &r.directory, r.entries()) {
-                Ok(form) if form == canonical_from_tree(&tree) => None,
-                Ok(form) => Some(format!("model {form}\n   rust {}", canonical_from_tree(&tree))),
-                Err(why) => Some(format!("the model's words: {why}")),
-            }
-        }
+        (Ok(r), Answer::Accepted(tree)) => match form(&r) {
+            Ok(form) if form == canonical_from_tree(&tree) => None,
+            Ok(form) => Some(format!("model {form}\n   rust {}", canonical_from_tree(&tree))),
+            Err(why) => Some(format!("the model's words: {why}")),
+        },
+        (Ok(r), Answer::LeftOut) => form(&r).err().map(|why| format!("the model's words: {why}")),
+        (Err(_), Answer::LeftOut) => None,
         (
             Err(Refusal { number, place }),
             Answer::Refused { number: n, place: p } | Answer::Outside { number: n, place: p },

@@ -65,7 +65,7 @@ impl Cursor<'_> {
             }
             b"cmpxchg" => self.cmpxchg(dest),
             b"extractvalue" => self.extractvalue(dest),
-            b"atomicrmw" => self.refuse(18),
+            b"atomicrmw" => self.atomicrmw(dest),
             _ => self.refuse(9),
         }
     }
@@ -169,6 +169,22 @@ impl Cursor<'_> {
         self.ordering()?;
         self.trailing()?;
         Ok(node(49, 0, &[dest], &Children::of(&[&ty, &pointer, &compare, &new])))
+    }
+
+    /// 02, M-100. The operation is a word as an opcode is; the text has the pointer first, the node the type.
+    fn atomicrmw(&mut self, dest: u64) -> Read<Vec<u64>> {
+        self.keyword("volatile");
+        self.space();
+        let Some(rank) = rank_of(RMW_OPS, &self.name()?.bytes) else {
+            return self.refuse(9);
+        };
+        let pointer = self.pointer()?;
+        self.expect(",")?;
+        let ty = self.ty1()?;
+        let value = self.value1()?;
+        self.ordering()?;
+        self.trailing()?;
+        Ok(node(48, rank, &[dest], &Children::of(&[&ty, &pointer, &value])))
     }
 
     fn extractvalue(&mut self, dest: u64) -> Read<Vec<u64>> {

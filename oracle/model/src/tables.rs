@@ -49,6 +49,9 @@ pub const FCMP_PREDS: &[&str] = &[
     "uno", "true",
 ];
 
+/// `RmwOp` in ast.rs order.
+pub const RMW_OPS: &[&str] = &["xchg", "add", "sub", "and", "or", "xor", "nand"];
+
 pub const ARITH_FLAGS: &[&str] = &["nuw", "nsw", "exact", "disjoint"];
 pub const FAST_FLAGS: &[&str] = &["fast", "nnan", "ninf", "nsz", "arcp", "contract", "afn", "reassoc"];
 pub const CONV_FLAGS: &[&str] = &["nneg", "nuw", "nsw"];

@@ -1,4 +1,4 @@
-//! 01's known readings, and the readings taken where it leaves a choice.
+//! 01's known readings, those of 02, and the readings taken where they leave a choice.
 
 use judge::answer::on_big_stack;
 use model::beside::difference;
@@ -74,11 +74,112 @@ fn escapes_one_past_the_end() {
 }
 
 #[test]
-fn quoted_and_atomic() {
-    assert_eq!(refused("void @f(){%x = atomicrmw add"), (18, 24));
-    assert_eq!(refused("void @f(){%x = \"atomicrmw\" add"), (18, 26));
-    assert_eq!(refused("void @f(){atomicrmw"), (9, 19));
+fn quoted_attribute() {
     assert_eq!(refused("  \"k\" void @f(){}"), (18, 2));
+}
+
+/// An `atomicrmw` in a block. What stands behind the word begins at 25 in the text, 15 in its piece.
+fn rmw(rest: &str) -> String {
+    format!("void @f(){{%x = atomicrmw {rest} ret void}}")
+}
+
+/// The words of a function whose only block has one instruction: those of the instruction.
+fn instruction(text: &str) -> Vec<u64> {
+    let words = records(text.as_bytes()).expect("accepted").words;
+    words[5..words.len() - 1].to_vec()
+}
+
+/// The node of `%x = atomicrmw .. %p, i32 1`: type, pointer, value. The name `p` starts there in its piece.
+fn rmw_node(rank: u64, p: u64) -> [u64; 9] {
+    let (i32_type, local, int) = (0x0200_0000_0000_0002, 0x1000_0000_0000_0002, 0x1200_0000_0000_0003);
+    let header = 0x3000_0003_0000_0009 | rank << 48;
+    [header, 1 << 32 | 1, i32_type, 32, local, p << 32 | 1, int, 0, 1]
+}
+
+/// 02, M-100: what is read.
+#[test]
+fn atomicrmw() {
+    for (op, rank, p) in [
+        ("xchg", 0, 25),
+        ("add", 1, 24),
+        ("sub", 2, 24),
+        ("and", 3, 24),
+        ("or", 4, 23),
+        ("xor", 5, 24),
+        ("nand", 6, 25),
+    ] {
+        assert_eq!(instruction(&rmw(&format!("{op} ptr %p, i32 1"))), rmw_node(rank, p), "{op}");
+    }
+    for (rest, p) in [
+        ("volatile add ptr %p, i32 1", 33),
+        ("volatile;c\n add ptr %p, i32 1", 36),
+        ("volatile\"add\" ptr %p, i32 1", 34),
+        ("\"add\" ptr %p, i32 1", 26),
+        ("\"\\61dd\" ptr %p, i32 1", 28),
+        ("add i32* %p, i32 1", 25),
+        ("add i8 (i8)* %p, i32 1", 29),
+        ("add ptr addrspace(1) %p, i32 1", 37),
+        ("add ptr %p, i32 1 syncscope(\"x\") acq_rel, align 4, !dbg !0", 24),
+        ("add ptr %p, i32 1 syncscope(\"x\")", 24),
+        ("add ptr %p, i32 1 unordered", 24),
+        ("add ptr %p, i32 1, align 4", 24),
+    ] {
+        assert_eq!(instruction(&rmw(rest)), rmw_node(1, p), "{rest}");
+    }
+    let quoted = "void @f(){%x = \"atomicrmw\" add ptr %p, i32 1 ret void}";
+    assert_eq!(instruction(quoted), rmw_node(1, 26));
+    assert!(records(rmw("xchg ptr %p, ptr null").as_bytes()).is_ok());
+    assert!(records(rmw("add ptr %p, float 1.5").as_bytes()).is_ok());
+    let tail = "void @f(){ret void %x = atomicrmw add ptr %p, i32 1 seq_cst, align 4}";
+    assert_eq!(pieces(tail), [[0, 10, 0, 3], [10, 9, 3, 3], [19, 50, 6, 0]]);
+    let older = rmw("add ptr %p, i32 1");
+    assert_eq!(reread(&older, &rmw("volatile or ptr %p, i32 1")), Reread { entries: 3, first: 1, read: 1 });
+}
+
+/// 02, M-100: what is refused, and where.
+#[test]
+fn no_atomicrmw() {
+    for (rest, number, place) in [
+        // The operation's word.
+        (", ptr %p, i32 1", 9, 25),
+        ("\"\" ptr %p, i32 1", 9, 27),
+        ("max ptr %p, i32 1", 9, 28),
+        ("fadd ptr %p, float 1.5", 9, 29),
+        ("uinc_wrap ptr %p, i32 1", 9, 34),
+        ("add.x ptr %p, i32 1", 9, 30),
+        ("addptr %p, i32 1", 9, 31),
+        ("volatile volatile add ptr %p, i32 1", 9, 42),
+        ("volatile.x add ptr %p, i32 1", 9, 35),
+        ("volatile_ add ptr %p, i32 1", 9, 34),
+        ("\"volatile\" add ptr %p, i32 1", 9, 35),
+        ("volatile , ptr %p, i32 1", 9, 34),
+        ("\"add", 13, 39),
+        ("\"\\4g\"", 14, 28),
+        // What stands behind it.
+        ("add", 5, 29),
+        ("add volatile ptr %p, i32 1", 5, 29),
+        ("add ptr, i32 1", 6, 32),
+        ("add i32 (i8) %p, i32 1", 6, 33),
+        ("add ptr %p i32 1", 3, 36),
+        ("add ptr %p, 1", 5, 37),
+        ("add ptr %p, i32", 6, 41),
+        ("add ptr %p, i0 1", 15, 38),
+        ("add ptr %p, i32 1, foo", 11, 44),
+        ("add ptr %p, i32 1, align 18446744073709551616", 15, 50),
+        ("add ptr %p, {{{{{{{{{{{{{{{{{{{{", 16, 56),
+        // Scope and ordering: each once, in this order; what is left begins the next statement.
+        ("add ptr %p, i32 1 seq_cst syncscope(\"x\")", 9, 60),
+        ("add ptr %p, i32 1 syncscope seq_cst", 3, 53),
+        ("add ptr %p, i32 1 seq_cst acquire", 9, 58),
+    ] {
+        assert_eq!(refused(&rmw(rest)), (number, place), "{rest}");
+    }
+    assert_eq!(refused("void @f(){atomicrmw add ptr %p, i32 1}"), (9, 19));
+    assert_eq!(refused("void @f(){\"atomicrmw\" add ptr %p, i32 1}"), (9, 21));
+    assert_eq!(refused("void @f(){%x = atomicrmw.x}"), (9, 26));
+    assert_eq!(refused("void @f(){%x = atomicrmw"), (9, 24));
+    assert_eq!(refused("void @f(){%x = atomicrmw ;c"), (9, 27));
+    assert_eq!(refused("void @f(){ret void %x = atomicrmw max ptr %p, i32 1}"), (9, 37));
 }
 
 /// 02, M-101: with parentheses where `(` follows, else bare.

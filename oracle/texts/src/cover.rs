@@ -149,6 +149,46 @@ const NO_STATEMENTS: &[&str] = &[
     "switch i8 1, label %d [1, label %a]", "unreachable, x", "unreachable !dbg !0",
 ];
 
+/// What may stand behind `atomicrmw` (M-100).
+const RMW: &[&str] = &[
+    "add ptr %p, i32 1", "add ptr %p, i32 1 seq_cst", "add ptr %p, i32 1 seq_cst, align 4",
+    "volatile xchg ptr %p, i32 1 seq_cst", "volatile;c\n and i8* %p, i8 -1", "volatile\"or\"ptr %p,i8 1",
+    "\"add\" ptr %p, i32 1", "\"\\61dd\" ptr %p, i32 1", ";c\n nand ptr @g, i1 true",
+    "xor i32* %p, i32 1 acq_rel", "sub ptr addrspace(1) %p, i32 %v", "add i8 (i8)* %p, i32 1",
+    "add i8 addrspace(1)* %p, i32 1", "xchg ptr %p, ptr null seq_cst", "xchg ptr %p, float 1.5",
+    "add ptr %p, float 1.0 monotonic", "add {i8} {i8 1}, [2 x i8] [i8 1, i8 2]",
+    "and%t%p,%t zeroinitializer", "add ptr %p, i32 1 syncscope(\"x\")",
+    "add ptr %p, i32 1 syncscope ( \"x\" ) release, align 8, !dbg !0, align 2", "add ptr %p, i32 1, align 4",
+    "add ptr %p, i32 1, !x", "add ptr getelementptr (i8, ptr @g), i32 1",
+];
+
+/// What may not: no operation, another word, a part left out or in another place.
+const NO_RMW: &[&str] = &[
+    "", ",", ", ptr %p, i32 1", "?", "\"\" ptr %p, i32 1", "\"add", "\"\\4g\"", "\"max\" ptr %p, i32 1",
+    "add.x ptr %p, i32 1", "addptr %p, i32 1", "Add ptr %p, i32 1", "add- ptr %p, i32 1", "volatile",
+    "volatile volatile add ptr %p, i32 1", "volatile.x add ptr %p, i32 1", "volatile_ add ptr %p, i32 1",
+    "\"volatile\" add ptr %p, i32 1", "volatileadd ptr %p, i32 1", "volatile , ptr %p, i32 1",
+    "volatile\"\" ptr %p, i32 1", "add volatile ptr %p, i32 1", "seq_cst add ptr %p, i32 1", "ptr %p, i32 1",
+    "add", "add nuw ptr %p, i32 1", "add ptr", "add ptr, i32 1", "add %p, i32 1", "add i8 (i8) %p, i32 1",
+    "add ptr %p", "add ptr %p i32 1", "add ptr %p,", "add ptr %p, 1", "add ptr %p, i32",
+    "add ptr %p, i32 1, i32 2", "add ptr %p, i32 1,", "add ptr %p, i32 1, align",
+    "add ptr %p, i32 1, align 18446744073709551616", "add ptr %p, i32 1 seq_cst syncscope(\"x\")",
+    "add ptr %p, i32 1 syncscope seq_cst", "add ptr %p, i32 1 syncscope(\"x\"",
+    "add ptr %p, i32 1 seq_cst acquire", "add ptr %p, i0 1",
+];
+
+/// `atomicrmw` as a word: without a `=`, in quotes, with more behind it, at the end.
+const RMW_WORDS: &[&str] = &[
+    "void @f(){atomicrmw add ptr %p, i32 1}", "void @f(){\"atomicrmw\" add ptr %p, i32 1}",
+    "void @f(){%x = \"atomicrmw\" add ptr %p, i32 1 ret void}",
+    "void @f(){%x = \"\\61tomicrmw\" add ptr %p, i32 1 ret void}", "void @f(){%x = \"\\61tomicrmw\" }",
+    "void @f(){%x=\"atomicrmw\"\"add\"ptr %p,i32 1 ret void}", "void @f(){%x = atomicrmw.x}",
+    "void @f(){%x = atomicrmwadd ptr %p, i32 1}", "void @f(){%x = atomicrmw", "void @f(){%x = atomicrmw ;c",
+    "void @f(){ret void %x = atomicrmw max ptr %p, i32 1}",
+    "void @f(){%x = atomicrmw add ptr %p, i32 1 a: ret void}",
+    "void @f(ptr dead_on_return %p){%x = atomicrmw add ptr %p, i32 1 ret void}",
+];
+
 /// Heads, whole texts.
 const HEADS: &[&str] = &[
     "void @f(){}", "void @f(){ret void}", "  void\n@f ( ) { }", "void @\"f g\"(){}", "void @0(){}",
@@ -183,7 +223,7 @@ const HEADS: &[&str] = &[
 ];
 
 /// Edits, older and newer text: a number out of its range in each piece; the parentheses of
-/// `dead_on_return` put in, taken out, left open.
+/// `dead_on_return` put in, taken out, left open; an `atomicrmw` made, altered, made wrong, in a tail.
 const EDITS: &[(&str, &str)] = &[
     ("void @f(i8 %x){ret void}", "void @f(i0 %x){ret void}"),
     ("void @f(){br label %a a: ret i8 1}", "void @f(){br label %a a: ret i008388609_ 1}"),
@@ -197,6 +237,22 @@ const EDITS: &[(&str, &str)] = &[
     (
         "void @f(){ret void a: ret void}",
         "void @f(){ret void a: call void @g(ptr dead_on_return %p) ret void}",
+    ),
+    (
+        "void @f(){%x = cmpxchg ptr %p, i8 1, i8 2 ret void}",
+        "void @f(){%x = atomicrmw add ptr %p, i8 2 ret void}",
+    ),
+    (
+        "void @f(){%x = atomicrmw add ptr %p, i8 1 ret void a: ret i8 %x}",
+        "void @f(){%x = atomicrmw volatile nand ptr %p, i8 1 ret void a: ret i8 %x}",
+    ),
+    (
+        "void @f(){ret void a: %x = atomicrmw add ptr %p, i8 1 ret void}",
+        "void @f(){ret void a: %x = atomicrmw max ptr %p, i8 1 ret void}",
+    ),
+    (
+        "void @f(){ret void %x = atomicrmw add ptr %p, i8 1}",
+        "void @f(){ret void %x = atomicrmw xor ptr %p, i8 1 acquire}",
     ),
 ];
 
@@ -226,9 +282,6 @@ const OUTSIDE: &[&str] = &[
     "\"a\" void @f(){}", "fastcc \"a\" void @f(){}", "void @f(i8 \"a\"=\"b\" %x){}", "void @f() \"a\"{}",
     "void @f(){call \"a\" void @g()}", "void @f(){call void @g(i8 \"a\" 1)}",
     "void @f(){call void @g() \"a\"}", "void @f(){call void (i8 \"a\") @g()}",
-    "void @f(){%x = atomicrmw add ptr %p, i8 1 seq_cst}",
-    "void @f(){%x = \"atomicrmw\" add ptr %p, i8 1 seq_cst}", "void @f(){%x = \"\\61tomicrmw\" }",
-    "void @f(){%x = atomicrmw.x}",
 ];
 
 /// Stored runs of `pieces` on texts that are refused: a list of vectors holds their answers too.
@@ -333,6 +386,11 @@ pub fn texts() -> Vec<Vec<u8>> {
     }
     expressions(&mut out);
     operations(&mut out);
+    words(&mut out, RMW, |s| statement(&format!("%x = atomicrmw {s}")));
+    words(&mut out, RMW, |s| format!("void @f(){{ret void %x = atomicrmw {s}}}"));
+    words(&mut out, NO_RMW, |s| statement(&format!("%x = atomicrmw {s}")));
+    words(&mut out, NO_RMW, |s| format!("void @f(){{%x = atomicrmw {s}"));
+    words(&mut out, RMW_WORDS, str::to_string);
     words(&mut out, STATEMENTS, statement);
     words(&mut out, NO_STATEMENTS, statement);
     words(&mut out, NO_STATEMENTS, |s| format!("void @f(){{{s}"));
@@ -381,5 +439,9 @@ fn operations(out: &mut Vec<String>) {
         out.push(statement(&format!("%x = load atomic i8, ptr %p {order}, align 1")));
         out.push(statement(&format!("store atomic i8 1, ptr %p {order}, align 1")));
         words(out, ORDERINGS, |fail| statement(&format!("%x = cmpxchg ptr %p, i8 1, i8 2 {order} {fail}")));
+        out.push(statement(&format!("%x = atomicrmw add ptr %p, i8 1 {order}, align 1")));
     }
+    words(out, RMW_OPS, |op| statement(&format!("%x = atomicrmw {op} ptr %p, i8 1 seq_cst")));
+    words(out, RMW_OPS, |op| statement(&format!("%x = atomicrmw volatile \"{op}\" ptr %p, i8 1")));
+    words(out, NO_RMW_OPS, |op| statement(&format!("%x = atomicrmw {op} ptr %p, i8 1 seq_cst")));
 }

@@ -501,7 +501,7 @@ impl Maker<'_> {
     }
 
     pub fn inst(&mut self) {
-        match self.rng.below(24) {
+        match self.rng.below(25) {
             0..=2 => self.bin(),
             3 => self.fbin(),
             4 => self.fneg(),
@@ -518,6 +518,7 @@ impl Maker<'_> {
             19 | 20 => self.call(),
             21 => self.cmpxchg(),
             22 => self.extractvalue(),
+            23 => self.atomicrmw(),
             _ => self.fence(),
         }
         if self.rng.one_in(60) {
@@ -527,12 +528,16 @@ impl Maker<'_> {
 
     fn op(&mut self, list: &[&str]) {
         self.dest();
+        self.opcode(list);
+    }
+
+    /// A word that may stand in quotes.
+    fn opcode(&mut self, list: &[&str]) {
         let op = self.rng.pick(list);
         match self.rng.below(60) {
             0 => self.token(&format!("\"{op}\"")),
             1 => self.token(&format!("\"\\{:02x}{}\"", op.as_bytes()[0], &op[1..])),
             2 if self.wrong > 0 => self.token(&format!("{op}.x")),
-            3 if self.wrong > 0 => self.token("atomicrmw"),
             _ => self.token(op),
         }
     }
@@ -734,6 +739,16 @@ impl Maker<'_> {
         self.maybe(6, "volatile");
         self.list(3, |m| m.typed());
         self.ordering();
+        self.ordering();
+        self.trailing();
+    }
+
+    pub fn atomicrmw(&mut self) {
+        self.op(&["atomicrmw"]);
+        self.maybe(4, "volatile");
+        let bad = self.wrong > 0 && self.rng.one_in(8);
+        self.opcode(if bad { NO_RMW_OPS } else { RMW_OPS });
+        self.list(2, |m| m.typed());
         self.ordering();
         self.trailing();
     }

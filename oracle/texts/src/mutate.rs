@@ -106,7 +106,10 @@ pub fn edit(rng: &mut Rng, older: &[u8]) -> Vec<u8> {
         7..=10 => replace(rng, &mut newer),
         11..=14 => delete(rng, &mut newer),
         15 | 16 => digit(rng, &mut newer),
-        _ => damage(rng, &mut newer, b" ret void %x = add i8 1, 2 } addrspace: ret i8 1 ; c\n"),
+        _ => damage(
+            rng, &mut newer,
+            b" ret void %x = add i8 1, 2 %y = atomicrmw or ptr %p, i8 1 } addrspace: ret i8 1 ; c\n",
+        ),
     }
     newer
 }

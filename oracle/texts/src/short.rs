@@ -9,8 +9,9 @@ const PREFIXES: &[&str] = &[
     "void @f(){ret i8 %\"", "void @f(){ret i8 [", "void @f(){ret i8 {", "void @f(){ret void",
     "void @f(){ret void,", "void @f(){ret void,!", "void @f(){br ", "void @f(){call ", "void @f(){call i8",
     "void @f(){call i8 @g(", "void @f(){call i8 @g()", "void @f(){%x=alloca i8", "void @f(){%x=icmp ",
-    "void @f(){%x=add ", "void @f(){%x=phi i8", "void @f(){switch i8 1,label %a[",
-    "void @f(){ret i8 addrspace", "ptr addrspace(1)", "void @f(){unreachable ",
+    "void @f(){%x=add ", "void @f(){%x=atomicrmw ", "void @f(){%x=atomicrmw volatile", "void @f(){%x=phi i8",
+    "void @f(){switch i8 1,label %a[", "void @f(){ret i8 addrspace", "ptr addrspace(1)",
+    "void @f(){unreachable ",
 ];
 
 /// Bytes that some test of the reader tells apart.

@@ -148,6 +148,7 @@ const NUMBERED: &[(&str, &str)] = &[
     ("void @f(){%x=alloca i8,align ", " ret void}"),
     ("void @f(){%x=load i8,ptr %p,align ", " ret void}"),
     ("void @f(){store i8 1,ptr %p,align ", " ret void}"),
+    ("void @f(){%x=atomicrmw or ptr %p,i8 1,align ", " ret void}"),
     ("void @f(){ret void,align ", "}"),
     ("void @f(){switch i32 1,label %a[i32 ", ",label %b]}"),
     ("void @f(){switch i32 1,label %a[i", " 1,label %b]}"),
@@ -210,6 +211,7 @@ const TYPE_SLOTS: &[(&str, &str)] = &[
     ("void @f(){call void(", ")@g()ret void}"),
     ("void @f(){call i8 addrspace(1) (", ")@g()ret void}"),
     ("void @f(){%x=load ", ",ptr %p ret void}"),
+    ("void @f(){%x=atomicrmw or ", " %p,i8 1 ret void}"),
     ("void @f(){%x=select ", " 1,i8 1,i8 2 ret void}"),
     ("void @f(){switch i8 1,label %a[", " 1,label %b]}"),
 ];
@@ -221,6 +223,7 @@ const VALUE_SLOTS: &[(&str, &str)] = &[
     ("void @f(){%x=alloca i8,i8 ", " ret void}"),
     ("void @f(){%x=phi i8[", ",%a] ret void}"),
     ("void @f(){call void ", "()ret void}"),
+    ("void @f(){%x=atomicrmw or ptr %p,i8 ", " ret void}"),
     ("void @f(){switch i8 ", ",label %a[]}"),
 ];
 

@@ -48,6 +48,14 @@ pub const FCMP_PREDS: &[&str] = &[
     "uno", "true",
 ];
 
+pub const RMW_OPS: &[&str] = &["xchg", "add", "sub", "and", "or", "xor", "nand"];
+
+/// Words in an operation's place that are none: the manual's others, and some of other places.
+pub const NO_RMW_OPS: &[&str] = &[
+    "max", "min", "umax", "umin", "fadd", "fsub", "fmax", "fmin", "fmaximum", "uinc_wrap", "udec_wrap",
+    "usub_cond", "usub_sat", "mul", "addx", "nan", "volatile", "volatilex", "ptr",
+];
+
 pub const ARITH_FLAGS: &[&str] = &["nuw", "nsw", "exact", "disjoint"];
 pub const FAST_FLAGS: &[&str] = &["fast", "nnan", "ninf", "nsz", "arcp", "contract", "afn", "reassoc"];
 pub const CONV_FLAGS: &[&str] = &["nneg", "nuw", "nsw"];
@@ -82,9 +90,10 @@ pub const KEYWORDS: &[&str] = &[
     "void", "float", "double", "ptr", "label", "metadata", "i1", "i8", "i32", "i64", "half", "true", "false",
     "null", "undef", "poison", "zeroinitializer", "getelementptr", "inbounds", "nuw", "nusw", "inrange",
     "to", "x", "ret", "br", "switch", "unreachable", "store", "fence", "call", "tail", "musttail", "notail",
-    "fneg", "icmp", "fcmp", "select", "load", "phi", "alloca", "freeze", "cmpxchg", "atomicrmw",
-    "extractvalue", "atomic", "volatile", "weak", "samesign", "syncscope", "align", "addrspace", "inalloca",
-    "cc", "c\"\"", "c\"a\\00b\"", "invoke", "insertvalue", "none", "token", "dead_on_return", "...",
+    "fneg", "icmp", "fcmp", "select", "load", "phi", "alloca", "freeze", "cmpxchg", "atomicrmw", "xchg",
+    "nand", "extractvalue", "atomic", "volatile", "weak", "samesign", "syncscope", "align", "addrspace",
+    "inalloca", "cc", "c\"\"", "c\"a\\00b\"", "invoke", "insertvalue", "none", "token", "dead_on_return",
+    "...",
 ];
 
 /// White space and comments, tame to odd.

@@ -10,7 +10,7 @@ fn check(text: &[u8]) {
     }
     let text = std::str::from_utf8(text).expect("bytes up to 127");
     let Asked { answer, bare } = asked(text);
-    if let Answer::Refused { number: 15.., .. } = answer {
+    if let Answer::Refused { number: 15.., .. } | Answer::LeftOut = answer {
         assert!(!domain::surely_inside(text.as_bytes()), "{text:?}");
         return;
     }

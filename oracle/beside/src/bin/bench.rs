@@ -5,7 +5,7 @@
 
 use beside::big;
 use beside::port::{Model, Port};
-use judge::files;
+use judge::{files, left_out};
 use std::hint::black_box;
 use std::process::ExitCode;
 use std::time::{Duration, Instant};
@@ -142,8 +142,10 @@ fn edit(port: &dyn Port, functions: &[Vec<u8>]) -> String {
 }
 
 fn run(port: &dyn Port) -> Result<bool, String> {
-    // Without those of clang 22: the Rust refuses most of them at their first attribute.
-    let functions = clang::functions_of(clang::STORED);
+    // Without those of clang 22: the Rust refuses most of them at their first attribute. Without
+    // `atomicrmw`, which is never compared with the Rust.
+    let mut functions = clang::functions_of(clang::STORED);
+    functions.retain(|text| !left_out(text));
     let mut out = "| texts | number | bytes | reader MB/s | Rust MB/s | ratio |\n|---|---|---|---|---|---|\n"
         .to_string();
     out.push_str(&compare(port, "functions of clang", &functions));

@@ -7,7 +7,7 @@
 use beside::port::{Model, Port};
 use beside::shrink::shrink;
 use beside::{big, check, reread, rooms};
-use judge::{files, hex, reads_on};
+use judge::{files, hex, left_out, reads_on};
 use std::collections::BTreeMap;
 use std::process::ExitCode;
 use texts::rng::Rng;
@@ -19,12 +19,16 @@ struct Answers {
     by_number: BTreeMap<u64, u64>,
     /// Texts that the Rust refuses for a bare `dead_on_return` (M-101), so that it was mended.
     read_on: u64,
+    /// Texts with an `atomicrmw` (M-100): held against the model, never against the Rust.
+    left_out: u64,
 }
 
 impl Answers {
     fn count(&mut self, number: u64, text: &[u8]) {
+        let left_out = left_out(text);
         *self.by_number.entry(number).or_default() += 1;
-        self.read_on += u64::from(reads_on(text));
+        self.left_out += u64::from(left_out);
+        self.read_on += u64::from(!left_out && reads_on(text));
     }
 
     fn all(&self) -> u64 {
@@ -34,14 +38,17 @@ impl Answers {
     fn add(&mut self, other: Answers) {
         other.by_number.into_iter().for_each(|(n, k)| *self.by_number.entry(n).or_default() += k);
         self.read_on += other.read_on;
+        self.left_out += other.left_out;
     }
 
     fn show(&self, what: &str) -> String {
         let accepted = self.by_number.get(&0).unwrap_or(&0);
         let refused: Vec<String> = self.by_number.range(1..).map(|(n, k)| format!("{n}: {k}")).collect();
-        let (all, refused, read_on) = (self.all(), refused.join(", "), self.read_on);
+        let (all, refused) = (self.all(), refused.join(", "));
+        let (read_on, left_out) = (self.read_on, self.left_out);
         format!(
-            "{all} {what}, {accepted} accepted; refused by number: {refused}; bare dead_on_return in {read_on}\n"
+            "{all} {what}, {accepted} accepted; refused by number: {refused}; bare dead_on_return in {read_on}, \
+             atomicrmw in {left_out}\n"
         )
     }
 }
@@ -151,6 +158,10 @@ impl Report {
     fn show(&self) -> String {
         let mut out: String = self.wrong.iter().take(SHOWN).map(|w| format!("{w}\n")).collect();
         out.push_str(&self.texts.show("texts"));
+        let left_out = self.texts.left_out;
+        out.push_str(&format!(
+            "{left_out} texts left out beside the Rust for atomicrmw: the model judges them\n"
+        ));
         out.push_str(&format!("{} readings in rooms around the exact fit\n", self.rooms));
         out.push_str(&self.edits.show("edits re-read"));
         out.push_str(&self.altered.show("altered calls"));
@@ -216,11 +227,13 @@ fn edits(port: &dyn Port, seed: u64, count: u64) -> Report {
     report
 }
 
-/// Texts whose every edit of one byte is tried: labels, blocks, quotes, escapes, a comment, each kind of border.
+/// Texts whose every edit of one byte is tried: labels, blocks, quotes, escapes, a comment, each kind of border,
+/// `atomicrmw`.
 const FEW: &[&[u8]] = &[
     b"void @f(){ret void}",
     b"i32 @f(i32 %x){br label %a a:ret i32 7;c\n}",
     b"void @\"g\\22\"(ptr %p,...)#0{0: %1=load i8,ptr %p,align 1 br label %b\nb:switch i8 %1,label %c[i8 1,label %d]c:unreachable d:ret void\n}\n",
+    b"void @f(){%x=atomicrmw volatile or i8*%p,i8 1 syncscope(\"s\")acquire,align 1 ret void}",
     b"double @f(){%x=fadd double 1.5e1,0x7FF0000000000000 call void (i8,...) @g(i8 1,{i8}{i8 2}) ret double %x}",
 ];
 

@@ -1,9 +1,10 @@
 //! Holds lists of vectors (`TEXT A ENTRIES WORDS DIRECTORY` or `TEXT R NUMBER PLACE`) against the
-//! Rust and reports each line on which it disagrees.
+//! Rust and reports each line on which it disagrees, and how many lines are left out (M-100): those
+//! are judged by `model --vectors` alone.
 
 use judge::answer::on_big_stack;
 use judge::vector::{self, Expected, Vector};
-use judge::{canonical_from_tree, canonical_from_words, files, judge, Answer};
+use judge::{canonical_from_tree, canonical_from_words, files, judge, left_out, Answer};
 use std::process::ExitCode;
 
 /// What the Rust says otherwise, if it does.
@@ -20,6 +21,7 @@ fn disagreement(v: &Vector) -> Option<String> {
             Expected::Refused { number, place },
             Answer::Refused { number: n, place: p } | Answer::Outside { number: n, place: p },
         ) if (*number, *place) == (n, p) => None,
+        (_, Answer::LeftOut) => None,
         (_, answer) => Some(answer.to_string()),
     }
 }
@@ -27,12 +29,14 @@ fn disagreement(v: &Vector) -> Option<String> {
 fn check(path: &str) -> Result<bool, String> {
     let list = files::lines(path, vector::parse)?;
     let total = list.len();
-    let found: Vec<(usize, String)> = on_big_stack(move || {
+    let (found, left): (Vec<(usize, String)>, usize) = on_big_stack(move || {
         let numbered = list.iter().enumerate();
-        numbered.filter_map(|(i, v)| disagreement(v).map(|why| (i + 1, why))).collect()
+        let found = numbered.filter_map(|(i, v)| disagreement(v).map(|why| (i + 1, why))).collect();
+        (found, list.iter().filter(|v| left_out(&v.text)).count())
     });
     let mut out: String = found.iter().map(|(i, why)| format!("vector {i}: the Rust: {why}\n")).collect();
-    out.push_str(&format!("{path}: {total} vectors, {} disagreements\n", found.len()));
+    let wrong = found.len();
+    out.push_str(&format!("{path}: {total} vectors, {wrong} disagreements, {left} left out for atomicrmw\n"));
     files::print(&out)?;
     Ok(found.is_empty())
 }

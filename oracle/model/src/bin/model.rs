@@ -4,7 +4,7 @@
 //! prefixes; `model --edits SEED COUNT` holds its re-reading against its full reading.
 
 use judge::answer::on_big_stack;
-use judge::{files, hex, vector};
+use judge::{files, hex, left_out, vector};
 use model::beside;
 use model::full::records;
 use std::process::ExitCode;
@@ -39,18 +39,19 @@ fn number(a: &str) -> Result<u64, String> {
 
 /// Holds the model against the Rust on these texts.
 fn compare(name: &str, texts: impl Iterator<Item = Vec<u8>> + Send + 'static) -> Result<bool, String> {
-    let (total, wrong) = on_big_stack(move || {
-        let (mut total, mut wrong) = (0u64, 0u64);
+    let (total, left, wrong) = on_big_stack(move || {
+        let (mut total, mut left, mut wrong) = (0u64, 0u64, 0u64);
         for text in texts {
             total += 1;
+            left += u64::from(left_out(&text));
             if let Some(why) = beside::difference(&text) {
                 wrong += 1;
                 println!("{}\n   text {:?}\n  {why}", hex::encode(&text), String::from_utf8_lossy(&text));
             }
         }
-        (total, wrong)
+        (total, left, wrong)
     });
-    println!("{total} texts {name}, {wrong} on which model and Rust differ");
+    println!("{total} texts {name}, {left} left out for atomicrmw, {wrong} on which model and Rust differ");
     Ok(wrong == 0)
 }
 

@@ -1,5 +1,6 @@
 //! Makes the fixed list: a text for each form, then COUNT short ones of a seed, each with its
-//! answer, on which the Rust and the model agree: `sample SEED COUNT FILE`.
+//! answer, on which the Rust and the model agree: `sample SEED COUNT FILE`. Texts with an `atomicrmw`
+//! (M-100) have the model's answer alone.
 
 use judge::answer::on_big_stack;
 use judge::vector::{print, Expected};
@@ -74,11 +75,12 @@ fn wanted() -> Vec<u64> {
         (41, 3),
         (42, 1),
         (44, 1),
+        (48, 6),
         (52, 1),
         (60, 10),
         (62, 1),
     ];
-    let plain = (1..=11).chain(16..=29).chain(32..=47).chain(49..=55).chain(60..=63).map(|kind| kind << 8);
+    let plain = (1..=11).chain(16..=29).chain(32..=55).chain(60..=63).map(|kind| kind << 8);
     let more = details.iter().flat_map(|&(kind, top)| (1..=top).map(move |detail| kind << 8 | detail));
     plain.chain(more).chain([53 << 8 | 3, 60 << 8 | 138]).collect()
 }

@@ -1,6 +1,6 @@
-//! How many texts of each kind there are, how many the Rust accepts and refuses, and how many lie
-//! outside the domain: `census SEED COUNT` counts the first COUNT of a seed, the texts that show
-//! each form, and the stored functions of clang.
+//! How many texts of each kind there are, how many the Rust accepts and refuses, how many lie outside
+//! the domain, and how many are left out for `atomicrmw`: `census SEED COUNT` counts the first COUNT
+//! of a seed, the texts that show each form, and the stored functions of clang.
 
 use judge::answer::on_big_stack;
 use judge::{files, judge, Answer};
@@ -15,6 +15,7 @@ struct Row {
     accepted: u64,
     refused: u64,
     outside: u64,
+    left_out: u64,
 }
 
 impl Row {
@@ -24,13 +25,14 @@ impl Row {
         self.accepted += other.accepted;
         self.refused += other.refused;
         self.outside += other.outside;
+        self.left_out += other.left_out;
     }
 
     fn line(&self, name: &str) -> String {
         let mean = self.bytes / self.texts.max(1);
         format!(
-            "| {name} | {} | {mean} | {} | {} | {} |\n",
-            self.texts, self.accepted, self.refused, self.outside
+            "| {name} | {} | {mean} | {} | {} | {} | {} |\n",
+            self.texts, self.accepted, self.refused, self.outside, self.left_out
         )
     }
 }
@@ -57,14 +59,14 @@ impl Census {
                 row.outside += 1;
                 *self.numbers.entry(number).or_default() += 1;
             }
+            Answer::LeftOut => row.left_out += 1,
             Answer::Broken(why) => self.broken.push(why),
         }
     }
 
     fn report(&self) -> String {
-        let mut out =
-            "| kind | texts | mean bytes | accepted | refused | outside |\n|---|---|---|---|---|---|\n"
-                .to_string();
+        let names = ["kind", "texts", "mean bytes", "accepted", "refused", "outside", "left out"];
+        let mut out = format!("| {} |\n{}|\n", names.join(" | "), "|---".repeat(names.len()));
         let mut sum = Row::default();
         for (name, row) in &self.rows {
             out.push_str(&row.line(name));

@@ -101,6 +101,9 @@ parse-call-requires c κs = c .before .before .before .before .before .before .b
 parse-cmpxchg-requires : tie.Need-parse-cmpxchg-requires
 parse-cmpxchg-requires c κs = c .before .before .before .before .before .before .before .pre
 
+parse-atomicrmw-requires : tie.Need-parse-atomicrmw-requires
+parse-atomicrmw-requires c κs = c .before .before .before .before .before .before .before .pre
+
 parse-extractvalue-requires : tie.Need-parse-extractvalue-requires
 parse-extractvalue-requires c κs = c .before .before .before .before .before .before .before .pre
 
@@ -194,12 +197,17 @@ returns-16 c =
     turn (ap (valueAt _) (c .before .before .before .before .match .keys10))
     (paid-rich (c .before .before .parse-cmpxchg .ensures) (omega arith))
 
+same-length-16 : tie.Need-same-length-16
+same-length-16 c = c .before .before .parse-atomicrmw .kept .1 .1 .0
+
 returns-17 : tie.Need-returns-17
 unfolding valueAt
-returns-17 c = turn (ap (valueAt _) (c .before .match .keys11)) (fail-is _ (c .refuse2 .ensures))
+returns-17 c =
+    turn (ap (valueAt _) (c .before .before .before .before .match .keys11))
+    (paid-rich (c .before .before .parse-atomicrmw .ensures) (omega arith))
 
-same-length-16 : tie.Need-same-length-16
-same-length-16 c = c .before .before .parse-extractvalue .kept .1 .1 .0
+same-length-17 : tie.Need-same-length-17
+same-length-17 c = c .before .before .parse-extractvalue .kept .1 .1 .0
 
 returns-18 : tie.Need-returns-18
 unfolding valueAt
@@ -240,7 +248,7 @@ value-inst-spec =
     parse-freeze-requires
     parse-call-requires
     parse-cmpxchg-requires
-    (λ c. search needs)
+    parse-atomicrmw-requires
     parse-extractvalue-requires
     same-length-6
     returns-7
@@ -262,6 +270,7 @@ value-inst-spec =
     returns-15
     same-length-15
     returns-16
-    returns-17
     same-length-16
+    returns-17
+    same-length-17
     returns-18)
