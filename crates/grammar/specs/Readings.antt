@@ -101,8 +101,9 @@ unfolding
     Instructions.skipAtomicOrdering Instructions.twoOperands Instructions.binary Instructions.unary Instructions.parseBin Instructions.parseFbin Instructions.parseFneg
     Instructions.noParen Instructions.parseConv Instructions.icmpPreds Instructions.fcmpPreds Instructions.predicate Instructions.parseIcmp
     Instructions.parseFcmp Instructions.parseSelect Instructions.loadOperands Instructions.storeOperands Instructions.access
-    Instructions.parseLoad Instructions.parseStore Instructions.pointerThenValue Instructions.parseCmpxchg Instructions.among Instructions.rmwOps Instructions.rmwOp
-    Instructions.parseAtomicrmw Instructions.parseExtractvalue Instructions.parseFence Instructions.allocaNode Instructions.parseAlloca Instructions.gepInstIndices Instructions.parseGepInst
+    Instructions.parseLoad Instructions.parseStore Instructions.pointerThenValue Instructions.parseCmpxchg Instructions.among
+    Instructions.rmwOps Instructions.rmwOp Instructions.parseAtomicrmw Instructions.parseExtractvalue Instructions.parseFence
+    Instructions.allocaNode Instructions.parseAlloca Instructions.gepInstIndices Instructions.parseGepInst
     Instructions.phiItems Instructions.parsePhi Instructions.parseFreeze Instructions.argItem Instructions.parseArgList
     Instructions.funcNode Instructions.callRest Instructions.callOf Instructions.parseCall Instructions.parseTailCall Instructions.parseRet
     Instructions.target Instructions.parseBr Instructions.caseInt Instructions.switchCases Instructions.switchNode
