@@ -1,5 +1,9 @@
+pub mod Onward
 pub mod ScanLaws
-pub mod NumeralLaws
 pub mod IntegerFolds
 pub mod DecimalFolds
 pub mod NumeralFolds
+pub mod NumeralRuns
+pub mod NumeralLaws
+pub mod Cuts
+pub mod Bounds

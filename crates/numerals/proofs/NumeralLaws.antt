@@ -1,4 +1,4 @@
--- A numeral part by part, and the literal that it is: a fold goes on behind a part from the part's state, so the parts need not be kept.
+-- The literal of a numeral at the cursor is that of the fold's state behind it; digits alone are the integer that they write.
 -- Assumes nothing.
 use mathlib.Core.Path.{_≡_, refl, sym, ap, _∙_, subst}
 use mathlib.Core.List.{List, [], _∷_}
@@ -6,153 +6,101 @@ use mathlib.Core.Bool.{Bool, true, false}
 use Prim.Native.Nat.{ℕ, _+_, _-_, _*_, _/_, _%_, _<_, _≤_}
 use native.Mathlib.Omega.{arith}
 use lib.Dec.{leb, lit<}
-use lib.ListN.{length, drop}
+use lib.ListN.{length, drop, length-drop}
 use lib.Seq.{length-take-le}
 use Rattle.program.specs.Class.{classOf, isName}
 use Rattle.program.specs.Prog.{Prog, ret, scanLen, byteAt}
 use Rattle.program.specs.Local.{scanLen-le}
 use Rattle.grammar.specs.Lexer.{isByte}
-use Rattle.grammar.specs.Numbers.{Numeral, digitStep, valueOf, halves, twos, largest, int, readSign, readExponent, behindPoint, readNumeric, isFloat, integerOf, literalOf, parseNumeral, Literal as Written}
-use Rattle.lexer.specs.Step.{taken, looksP, passed, refused}
+use Rattle.grammar.specs.Numbers.{Numeral, digitStep, valueOf, halves, twos, largest, int, behindPoint, readNumeric, isFloat, integerOf, literalOf, parseNumeral, Literal as Written}
+use Rattle.lexer.specs.Step.{taken, refused}
 use Rattle.lexer.specs.Reads.{Aim, Finds, Gives}
 use Rattle.lexer.specs.declared.Cursor.{Cursor}
 use Rattle.lexer.specs.declared.Parsed.{Parsed}
 use Rattle.lexer.specs.declared.Parsed.the-variants.{Ok, Refused}
-use Rattle.lexer.proofs.Laws.{given as from-run, g-then, g-done, g-byte-yes, g-byte-no, g-fail, true-false}
+use Rattle.lexer.proofs.Laws.{given as from-run, kept, g-then, g-done, g-byte-no, g-fail}
 use Rattle.arithmetic.specs.Folds.{folded, allDigits, begins}
 use Rattle.arithmetic.specs.Literals.{given}
-use Rattle.numerals.specs.Numerals.{started, wholePushed, pointPassed, partPushed, exponentPassed, powerPushed, exponentOf, partOf, foldOf, literalIn}
+use Rattle.numerals.specs.Numerals.{started, signPassed, reach, literalIn}
 use Rattle.arithmetic.specs.declared.literal.Literal.the-variants.{Int, Float, Refused as Question}
 use Rattle.arithmetic.specs.declared.literal.Literal.{Literal}
 use Rattle.numerals.specs.declared.folds.Fold.{Fold}
 use Rattle.arithmetic.proofs.Halves.{W, small-in, halves-are, negated-low}
-use Rattle.numerals.proofs.NumeralFolds.{numeral-literal}
-use Rattle.numerals.specs.Scans.{DigitsAt, ShortAt}
-use Rattle.numerals.specs.Reads.{PowerAt, TailAt, NumeralAt, LitAt, writtenOf, Out}
-use Rattle.numerals.specs.declared.Part.the-variants.{Whole, Behind, Power}
+use Rattle.numerals.proofs.NumeralFolds.{Written as Proper, exponentOf, partOf, foldOf, numeral-literal}
+use Rattle.numerals.proofs.NumeralRuns.{NumeralOf, numeral-of}
+use Rattle.numerals.specs.Scans.{ShortAt}
+use Rattle.numerals.specs.Reads.{FoldedAt, LitAt, writtenOf, Out}
 use Rattle.numerals.proofs.ScanLaws.{digits-run}
 use Rattle.lexer.proofs.TestLaws.{name-other}
 
--- ---- the exponent
-pub power-here : {s0 t s : Fold} {text : List ℕ} {p q p′ : Parsed} {d : Bool} → Gives readSign d text p q → t ≡ exponentPassed s0 d → DigitsAt Power t text q p′ s → PowerAt s0 text p p′ s
-unfolding readExponent
-power-here {d = d} g e a = record {
-  down = d;
-  power = a .run;
-  gives = λ w b f. g-then _ g (g-then _ (a .gives) g-done);
-  begun = a .begun;
-  state = a .state ∙ ap (λ (u : Fold). folded powerPushed u (a .run)) e;
-}
+-- ---- the numeral at the cursor
+pub behind-sign : (neg : Bool) {text : List ℕ} {p q : Parsed} {s0 s1 s : Fold} → s0 ≡ started → s1 ≡ signPassed s0 neg → FoldedAt s1 text p q s → FoldedAt (signPassed started neg) text p q s
+behind-sign neg {text} {p} {q} {s0} {s1} {s} e f a = subst (λ (u : Fold). FoldedAt u text p q s) (f ∙ ap (λ (u : Fold). signPassed u neg) e) a
 
-module _ {s : Fold} {text : List ℕ} {p : Parsed} where
-  pub tail-e : {s0 : Fold} {q p′ : Parsed} {r : Bool} → r ≡ looksP text p 101 → r ≡ true → q ≡ passed text 1 p → PowerAt s0 text q p′ s → TailAt s0 text p p′ s
-  unfolding behindPoint
-  tail-e l y i a = record {
-    exponent = true;
-    down = a .down;
-    power = a .power;
-    gives = λ w b f. g-byte-yes 101 _ l y i (a .gives w b f);
-    begun = a .begun;
-    no-power = λ e. true-false (sym e);
-    no-sign = λ e. true-false (sym e);
-    state = a .state;
-  }
+record NumeralAt (neg : Bool) (text : List ℕ) (p p′ : Parsed) (s : Fold) : Type 0 where
+  numeral : Numeral
+  sign : Bool
+  gives : Gives readNumeric numeral text p p′
+  proper : length text ≤ 16777216 → Proper sign numeral
+  state : s ≡ foldOf neg sign numeral
 
-  pub tail-E : {s0 : Fold} {q p′ : Parsed} {r t : Bool} → r ≡ looksP text p 101 → r ≡ false → t ≡ looksP text p 69 → t ≡ true → q ≡ passed text 1 p → PowerAt s0 text q p′ s → TailAt s0 text p p′ s
-  unfolding behindPoint
-  tail-E k n l y i a = record {
-    exponent = true;
-    down = a .down;
-    power = a .power;
-    gives = λ w b f. g-byte-no 101 _ k n (g-byte-yes 69 _ l y i (a .gives w b f));
-    begun = a .begun;
-    no-power = λ e. true-false (sym e);
-    no-sign = λ e. true-false (sym e);
-    state = a .state;
-  }
+-- none of it was read
+nowhere : Numeral
+nowhere = record { whole = []; point = false; part = []; exponent = false; down = false; power = [] }
 
-  pub tail-none : {r t : Bool} → r ≡ looksP text p 101 → r ≡ false → t ≡ looksP text p 69 → t ≡ false → TailAt s text p p s
-  unfolding behindPoint begins
-  tail-none k n l y = record {
-    exponent = false;
-    down = false;
-    power = [];
-    gives = λ w b f. g-byte-no 101 _ k n (g-byte-no 69 _ l y g-done);
-    begun = refl;
+at-cursor : (neg : Bool) (text : List ℕ) (p : Parsed) {q : Parsed} {s : Fold} → FoldedAt (signPassed started neg) text p q s → NumeralAt neg text p q s
+unfolding nowhere foldOf exponentOf partOf folded allDigits begins
+at-cursor neg text (Ok cur) a =
+    let n : NumeralOf neg (cur .at) (drop (cur .at) text) = numeral-of neg (cur .at) (drop (cur .at) text) in
+    record {
+      numeral = n .numeral;
+      sign = n .sign;
+      gives = rw (a .place) (from-run cur (cur .at + reach (signPassed started neg) (drop (cur .at) text)) (λ x. n .runs));
+      proper = λ h. n .proper (omega (arith, length-drop (cur .at) text));
+      state = a .state ∙ n .state;
+    }
+at-cursor neg text (Refused e q) a = record {
+  numeral = nowhere;
+  sign = false;
+  gives = rw (a .place) (kept e q);
+  proper = λ h. record {
+    whole-digits = refl;
+    part-digits = refl;
+    whole-begins = refl;
+    part-begins = refl;
+    power-begins = refl;
+    no-part = λ e. refl;
     no-power = λ e. refl;
+    unsigned = λ e. refl;
     no-sign = λ e. refl;
-    state = refl;
-  }
-
--- ---- the numeral
-module _ {text : List ℕ} {p q : Parsed} {s0 s1 : Fold} {r : Bool} (z : s0 ≡ started) (a : DigitsAt Whole s0 text p q s1) (l : r ≡ looksP text q 46) where
-  whole-is : s1 ≡ folded wholePushed started (a .run)
-  whole-is = a .state ∙ ap (λ (u : Fold). folded wholePushed u (a .run)) z
-
-  pub numeral-point : {q2 q3 p′ : Parsed} {s2 s3 s : Fold} → r ≡ true → q2 ≡ passed text 1 q → s2 ≡ pointPassed s1 → DigitsAt Behind s2 text q2 q3 s3 → TailAt s3 text q3 p′ s → NumeralAt text p p′ s
-  unfolding readNumeric foldOf exponentOf partOf
-  numeral-point {s2 = s2} {s3 = s3} y i e b t =
-      let n : Numeral = record { whole = a .run; point = true; part = b .run; exponent = t .exponent; down = t .down; power = t .power } in
-      let o : s3 ≡ folded partPushed (pointPassed (folded wholePushed started (a .run))) (b .run) = b .state ∙ ap (λ (u : Fold). folded partPushed u (b .run)) (e ∙ ap pointPassed whole-is) in
-      record {
-        numeral = n;
-        gives = g-then _ (a .gives) (g-byte-yes 46 _ l y i (g-then _ (b .gives) (t .gives (a .run) true (b .run))));
-        proper = λ h. record {
-          whole-digits = a .all;
-          part-digits = b .all;
-          whole-begins = a .begun;
-          part-begins = b .begun;
-          power-begins = t .begun;
-          no-part = λ e. true-false (sym e);
-          no-power = t .no-power;
-          no-sign = t .no-sign;
-          few = omega (arith, a .few, b .few);
-        };
-        state = t .state ∙ ap (exponentOf n) o;
-      }
-
-  pub numeral-plain : {p′ : Parsed} {s : Fold} → r ≡ false → TailAt s1 text q p′ s → NumeralAt text p p′ s
-  unfolding readNumeric foldOf exponentOf partOf allDigits begins
-  numeral-plain y t =
-      let n : Numeral = record { whole = a .run; point = false; part = []; exponent = t .exponent; down = t .down; power = t .power } in
-      record {
-        numeral = n;
-        gives = g-then _ (a .gives) (g-byte-no 46 _ l y (t .gives (a .run) false []));
-        proper = λ h. record {
-          whole-digits = a .all;
-          part-digits = refl;
-          whole-begins = a .begun;
-          part-begins = refl;
-          power-begins = t .begun;
-          no-part = λ e. refl;
-          no-power = t .no-power;
-          no-sign = t .no-sign;
-          few = omega (arith, a .few);
-        };
-        state = t .state ∙ ap (exponentOf n) whole-is;
-      }
+    few = omega arith;
+  };
+  state = a .state;
+}
 
 -- ---- the literal
 -- in a small text
 small : {A : Type 0} {f : Prog A} {E : Aim A} {text : List ℕ} {p p′ : Parsed} → ((e q : ℕ) → p ≡ Refused e q → p′ ≡ Refused e q) → (length text ≤ 16777216 → Finds f E text p p′) → Finds f E text p p′
 small d h = record { runs = λ cur t i. h (i .small) .runs cur t i; hands = d }
 
-module _ (neg : Bool) {text : List ℕ} {p q : Parsed} {s : Fold} (a : NumeralAt text p q s) where
-  literal-here : {l : Literal} {v : Written} {r : Parsed} → l ≡ literalIn neg s → Gives (given l) v text q r → Gives (parseNumeral neg) v text p r
+module _ (neg : Bool) {text : List ℕ} {p q : Parsed} {s : Fold} (f : FoldedAt (signPassed started neg) text p q s) where
+  literal-here : {l : Literal} {v : Written} {r : Parsed} → l ≡ literalIn s → Gives (given l) v text q r → Gives (parseNumeral neg) v text p r
   unfolding parseNumeral
-  literal-here {l} {v} {r} e h = small (λ n x t. h .hands n x (a .gives .hands n x t)) (λ k.
-      let o : given l ≡ literalOf neg (a .numeral) = ap given e ∙ ap (λ (u : Fold). given (literalIn neg u)) (a .state) ∙ numeral-literal neg (a .numeral) (a .proper k) in
-      g-then (literalOf neg) (a .gives) (subst (λ (f : Prog Written). Gives f v text q r) o h))
+  literal-here {l} {v} {r} e h =
+      let a : NumeralAt neg text p q s = at-cursor neg text p f in
+      small (λ n x t. h .hands n x (a .gives .hands n x t)) (λ k.
+      let o : given l ≡ literalOf neg (a .numeral) = ap given e ∙ ap (λ (u : Fold). given (literalIn u)) (a .state) ∙ numeral-literal neg (a .sign) (a .numeral) (a .proper k) in
+      g-then (literalOf neg) (a .gives) (subst (λ (g : Prog Written). Gives g v text q r) o h))
 
-  pub literal-int : (h k : ℕ) → Int h k ≡ literalIn neg s → LitAt neg text p (record { p = q; lit = Int h k })
+  pub literal-int : (h k : ℕ) → Int h k ≡ literalIn s → LitAt neg text p (record { p = q; lit = Int h k })
   unfolding given writtenOf
   literal-int h k e = record { gives = literal-here e g-done; out = λ n x. absurd (let z : _≡_ {A = ℕ} 0 1 = cc in omega arith) }
 
-  pub literal-float : (b : ℕ) → Float b ≡ literalIn neg s → LitAt neg text p (record { p = q; lit = Float b })
+  pub literal-float : (b : ℕ) → Float b ≡ literalIn s → LitAt neg text p (record { p = q; lit = Float b })
   unfolding given writtenOf
   literal-float b e = record { gives = literal-here e g-done; out = λ n x. absurd (let z : _≡_ {A = ℕ} 0 1 = cc in omega arith) }
 
-  pub literal-out : (n : ℕ) {r : Parsed} → Question n ≡ literalIn neg s → r ≡ refused n q → LitAt neg text p (record { p = r; lit = Question n })
+  pub literal-out : (n : ℕ) {r : Parsed} → Question n ≡ literalIn s → r ≡ refused n q → LitAt neg text p (record { p = r; lit = Question n })
   unfolding given writtenOf
   literal-out n e i = record { gives = literal-here e (g-fail n i); out = λ m x. subst Out (sym i) (never q) }
     where

@@ -1,31 +1,22 @@
--- The scan of digits and its fold go one byte on together, so where the scan stops the fold is that of all digits passed.
+-- Digits alone, and their value: the scan of digits and its sum go one byte on together, so where the scan stops the sum is the value of all digits
+-- passed.
 -- Assumes nothing.
 use mathlib.Core.Path.{_≡_, refl, sym, ap, _∙_}
-use mathlib.Core.List.{List, []}
-use mathlib.Core.Bool.{Bool, true, false}
-use mathlib.Core.Option.{Option, none, some}
+use mathlib.Core.List.{List}
+use mathlib.Core.Bool.{true, false}
+use mathlib.Core.Option.{none, some}
 use Prim.Native.Nat.{ℕ, _+_, _*_, _≤_, _<_}
 use native.Mathlib.Omega.{arith}
-use lib.Dec.{eqb}
-use lib.ListN.{length, getD, drop, drop-of-length-le, length-drop}
-use lib.Seq.{length-take-le}
-use borrow.Author.Tests.{eq-eqb, ne-eqb, lt-ltb, le-ltb, lt-leb}
-use Rattle.program.specs.Choice.{pick}
+use lib.ListN.{length, getD, drop, drop-of-length-le}
+use borrow.Author.Tests.{ne-eqb, lt-ltb, le-ltb, lt-leb}
 use Rattle.program.specs.Class.{classOf, isDigit, isName}
 use Rattle.program.specs.Prog.{ret, run, ok, scanLen, byteAt}
-use Rattle.program.specs.Local.{scanLen-le}
 use Rattle.grammar.specs.Numbers.{digitStep, valueOf, digits}
 use Rattle.lexer.specs.Step.{taken}
-use Rattle.lexer.specs.declared.Cursor.{Cursor}
-use Rattle.lexer.specs.declared.Parsed.the-variants.{Ok, Refused}
 use Rattle.program.specs.Lists.{drop-next}
 use Rattle.lexer.proofs.Folding.{FoldsTo, Folding, folding-start, folding-out, folding-stop, folding-more}
-use Rattle.lexer.proofs.Laws.{given, kept, scan-run, true-false}
-use Rattle.arithmetic.specs.Folds.{folded, allDigits, begins}
-use Rattle.numerals.specs.declared.folds.Fold.{Fold}
-use Rattle.arithmetic.proofs.Scans.{digits-all, digits-begin}
-use Rattle.numerals.specs.Scans.{pushedIn, DigitsAt, ShortAt}
-use Rattle.numerals.specs.declared.Part.{Part}
+use Rattle.lexer.proofs.Laws.{scan-run, true-false}
+use Rattle.numerals.specs.Scans.{ShortAt}
 
 -- ---- digits: d is the class of the byte at i
 no-score : isDigit 95 ≡ false
@@ -44,46 +35,9 @@ step-digit : (q x : ℕ) → isDigit x ≡ true → digitStep q x ≡ some 1
 unfolding digitStep
 step-digit q x e = rw e
 
-step-score : (q x : ℕ) → isDigit x ≡ false → x ≡ 95 → (q ≡ 0 → ⊥) → digitStep q x ≡ some 1
-unfolding digitStep
-step-score q x e s n = rw (e, eq-eqb _ _ s, ne-eqb _ _ n)
-
-step-first : (q x : ℕ) → isDigit x ≡ false → q ≡ 0 → digitStep q x ≡ none
-unfolding digitStep
-step-first q x e n = rw (e, eq-eqb _ _ n) (go (eqb x 95))
-  where
-    go : (b : Bool) → pick b (pick {A = Option ℕ} true none (some 1)) none ≡ none
-    go true = refl
-    go false = refl
-
 step-stop : (q x : ℕ) → isDigit x ≡ false → (x ≡ 95 → ⊥) → digitStep q x ≡ none
 unfolding digitStep
 step-stop q x e n = rw (e, ne-eqb _ _ n)
-
-module _ (part : Part) {text : List ℕ} {at : ℕ} {s0 : Fold} {i q : ℕ} {s : Fold} where
-  pub digit-out : Folding digitStep (folded (pushedIn part)) text at s0 i q s → length text ≤ i → FoldsTo digitStep (folded (pushedIn part)) text at s0 i s
-  unfolding folded
-  digit-out a h = folding-out digitStep (folded (pushedIn part)) text at s0 i q s a refl h
-
-  module _ {d : ℕ} (a : Folding digitStep (folded (pushedIn part)) text at s0 i q s) (h : i < length text) (e : d ≡ classOf (getD text i 0)) where
-    pub digit-more : {t : Fold} → d < 10 → t ≡ pushedIn part s d → Folding digitStep (folded (pushedIn part)) text at s0 (i + 1) 1 t
-    unfolding folded
-    digit-more {t} k n =
-        let z : isDigit (getD text i 0) ≡ true = digital _ d e k in
-        let o : (getD text i 0 ≡ 95 → ⊥) = λ u. true-false (sym no-score ∙ (rw u at z)) in
-        folding-more digitStep (folded (pushedIn part)) text at s0 i q s a 1 t (λ l. rw (ne-eqb _ _ o, ← e, ← n)) h (step-digit q _ z)
-
-    pub digit-score : 10 ≤ d → getD text i 0 ≡ 95 → (q ≡ 0 → ⊥) → Folding digitStep (folded (pushedIn part)) text at s0 (i + 1) 1 s
-    unfolding folded
-    digit-score k x n = folding-more digitStep (folded (pushedIn part)) text at s0 i q s a 1 s (λ l. rw (eq-eqb _ _ x)) h (step-score q _ (other _ d e k) x n)
-
-    pub digit-stop : 10 ≤ d → (getD text i 0 ≡ 95 → ⊥) → FoldsTo digitStep (folded (pushedIn part)) text at s0 i s
-    unfolding folded
-    digit-stop k x = folding-stop digitStep (folded (pushedIn part)) text at s0 i q s a refl h (step-stop q _ (other _ d e k) x)
-
-    pub digit-none : 10 ≤ d → q ≡ 0 → FoldsTo digitStep (folded (pushedIn part)) text at s0 i s
-    unfolding folded
-    digit-none k n = folding-stop digitStep (folded (pushedIn part)) text at s0 i q s a refl h (step-first q _ (other _ d e k) n)
 
 -- ---- digits alone, and their value: the scan goes on from i in some state, and its value from v
 pub record Summing (text : List ℕ) (at i v : ℕ) : Type 0 where
@@ -132,17 +86,3 @@ module _ {text : List ℕ} {at i v : ℕ} (a : Summing text at i v) where
 pub digits-run : (text : List ℕ) (at i : ℕ) → i ≡ at + scanLen digitStep 0 (drop at text) → run digits at (drop at text) ≡ ok (taken digitStep 0 (drop at text)) i
 unfolding digits run
 digits-run text at i e = scan-run digitStep 0 ret text at ∙ ap (ok (taken digitStep 0 (drop at text))) (sym e)
-
-pub digits-here : {part : Part} {s0 : Fold} {text : List ℕ} {i : ℕ} {s : Fold} (cur : Cursor) → FoldsTo digitStep (folded (pushedIn part)) text (cur .at) s0 i s → DigitsAt part s0 text (Ok cur) (Ok (record { at = i; w = cur .w })) s
-digits-here {part} {s0} {text} {i} cur a = record {
-  run = taken digitStep 0 (drop (cur .at) text);
-  gives = given cur i (λ x. digits-run text (cur .at) i (a .place));
-  state = a .state;
-  all = digits-all 0 (drop (cur .at) text);
-  begun = digits-begin (drop (cur .at) text);
-  few = omega (arith, length-take-le (scanLen digitStep 0 (drop (cur .at) text)) (drop (cur .at) text) (scanLen-le digitStep 0 (drop (cur .at) text)), scanLen-le digitStep 0 (drop (cur .at) text), length-drop (cur .at) text);
-}
-
-pub digits-kept : {part : Part} {s0 : Fold} {text : List ℕ} (e q : ℕ) → DigitsAt part s0 text (Refused e q) (Refused e q) s0
-unfolding folded allDigits begins
-digits-kept e q = record { run = []; gives = kept e q; state = refl; all = refl; begun = refl; few = omega arith }

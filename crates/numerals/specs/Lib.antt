@@ -1,3 +1,4 @@
+pub mod Numerals
+pub mod Steps
 pub mod Scans
 pub mod Reads
-pub mod Numerals

@@ -1,7 +1,8 @@
-// Numerals in a text (`read_numeric`): digits are folded as they are scanned. 01: "Types and values", questions 7 and 17.
+// Numerals in a text (`read_numeric`), folded byte by byte. 01: "Types and values", questions 7 and 17.
 pub mod folds; // folds.rt: the state of a numeral, and what it is in the end
 pub mod reads; // reads.rt: numerals
-pub mod scans; // scans.rt: digits, folded
+pub mod scans; // scans.rt: digits that are a numeral by themselves
+pub mod steps; // steps.rt: a byte more
 
 use crate::folds::Fold;
 use arithmetic::literal::Literal;
@@ -11,13 +12,6 @@ use lexer::Parsed;
 pub struct Lit {
     pub p: Parsed,
     pub lit: Literal,
-}
-
-// Digits before the point, behind it, of the exponent.
-pub enum Part {
-    Whole,
-    Behind,
-    Power,
 }
 
 // Where the reader is, and the numeral's state.
@@ -31,10 +25,4 @@ pub struct Short {
     pub at: usize,
     pub v: u64,
     pub is: bool,
-}
-
-// Where the reader is, and whether it passed a minus.
-pub struct Sign {
-    pub p: Parsed,
-    pub down: bool,
 }

@@ -44,11 +44,16 @@ pub fn same_array(what: &str, got: &[u64], expected: &[u64]) -> Result<(), Strin
 
 /// One text in ample room; the reader's answer when nothing differs.
 pub fn full(port: &dyn Port, text: &[u8]) -> Result<Outcome, String> {
-    let (words, directory) = ample(text);
-    let got = parse(port, text, words, directory);
-    let expected = parse(&Model, text, words, directory);
-    same(&got, &expected).map_err(|why| format!("model: {why}"))?;
+    let got = beside_the_model(port, text, ample(text))?;
     beside_the_rust(text, &got).map_err(|why| format!("Rust: {why}"))?;
+    Ok(got)
+}
+
+/// One text in arrays of these lengths: answer, every word, line and column.
+pub fn beside_the_model(port: &dyn Port, text: &[u8], room: (usize, usize)) -> Result<Outcome, String> {
+    let got = parse(port, text, room.0, room.1);
+    let expected = parse(&Model, text, room.0, room.1);
+    same(&got, &expected).map_err(|why| format!("model: {why}"))?;
     positions(port, text, got.answer.place)?;
     Ok(got)
 }

@@ -4,6 +4,7 @@
 pub mod big;
 pub mod check;
 pub mod lent;
+pub mod long;
 pub mod port;
 pub mod reread;
 pub mod rooms;

@@ -2,6 +2,7 @@
 
 pub mod answer;
 pub mod domain;
+pub mod exponent;
 pub mod files;
 pub mod form;
 pub mod hex;

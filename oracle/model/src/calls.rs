@@ -127,7 +127,7 @@ fn deeper(rng: &mut Rng, call: &mut Call) {
         return;
     }
     let at = rng.below(common - n + 1);
-    let open = rng.pick(&[b'{', b'[', b'(', b'<']);
+    let open = rng.pick(b"{[(<");
     for text in [&mut call.older, &mut call.newer] {
         let start = if behind { text.len() - common + at } else { at };
         text[start..start + n].fill(open);

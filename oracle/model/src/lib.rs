@@ -4,6 +4,7 @@
 pub mod beside;
 pub mod body;
 pub mod calls;
+pub mod fold;
 pub mod full;
 pub mod lexer;
 pub mod literals;

@@ -10,7 +10,7 @@ pub enum Number {
 
 const QUIET_NAN: u64 = 0x7ff8_0000_0000_0000;
 const INFINITY: u64 = 0x7ff0_0000_0000_0000;
-const SIGN: u64 = 1 << 63;
+pub(crate) const SIGN: u64 = 1 << 63;
 
 /// The parts of a numeral, underscores left out.
 #[derive(Default)]
@@ -38,6 +38,11 @@ impl Cursor<'_> {
             let (count, bits) = self.hex_digits();
             return if (1..=16).contains(&count) { Ok(Number::Float(bits)) } else { self.refuse(7) };
         }
+        self.plain_numeral()
+    }
+
+    /// A numeral of digits, neither `0x` nor a word.
+    pub(crate) fn plain_numeral(&mut self) -> Read<Number> {
         let numeral = self.numeral();
         if numeral.point || numeral.exponent.is_some() {
             return self.decimal(&numeral);
@@ -188,7 +193,7 @@ fn power(n: &Numeral) -> Option<i64> {
 }
 
 /// The binary64 nearest to whole * 10^power, whole below 10^15 and above 0, by whole numbers.
-fn nearest(whole: u128, power: i32) -> u64 {
+pub(crate) fn nearest(whole: u128, power: i32) -> u64 {
     let ten = 10u128.pow(power.unsigned_abs());
     let (mut top, mut bottom) = if power < 0 { (whole, ten) } else { (whole * ten, 1) };
     // Scale until the quotient has exactly 53 bits; both sides stay below 2^128.

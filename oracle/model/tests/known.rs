@@ -59,6 +59,19 @@ fn floats() {
     }
 }
 
+/// 02, M-103: an exponent counts to its end, however many digits make up for it.
+#[test]
+fn long_exponents() {
+    let zeros = |n: usize| "0".repeat(n);
+    assert_eq!(value_word(&format!("0.{}1e655360", zeros(655_359)), 0), 1f64.to_bits());
+    assert_eq!(value_word(&format!("1{}e-655360", zeros(655_360)), 0), 1f64.to_bits());
+    assert_eq!(value_word(&format!("0.{}1e655360", zeros(655_337)), 0), 1e22f64.to_bits());
+    assert_eq!(value_word(&format!("1{}e-655360", zeros(655_338)), 0), 1e-22f64.to_bits());
+    for literal in [format!("0.{}1e655360", zeros(655_336)), format!("1{}e-655360", zeros(655_337))] {
+        assert_eq!(refused(&format!("void @f(){{ret double {literal}}}")), (17, 21 + literal.len()));
+    }
+}
+
 #[test]
 fn the_last_label_counts() {
     let words = records(b"void @f(){a: b: ret void}").expect("accepted").words;

@@ -5,6 +5,7 @@ pub mod clang;
 pub mod cover;
 pub mod maker;
 pub mod mutate;
+pub mod numerals;
 pub mod rng;
 pub mod short;
 pub mod special;

@@ -2,6 +2,8 @@
 
 use judge::answer::{asked, on_big_stack, rust, Asked};
 use judge::{domain, Answer};
+use texts::numerals::placed;
+use texts::rng::Rng;
 use texts::{cover, Texts};
 
 fn check(text: &[u8]) {
@@ -31,5 +33,7 @@ fn the_asked_copy_is_the_rust_inside_the_domain() {
         cover::texts().iter().for_each(|text| check(text));
         let mut texts = Texts::new(2);
         (0..30_000).for_each(|_| check(&texts.draw().1));
+        let mut rng = Rng::new(3);
+        (0..30_000).for_each(|_| check(&placed(&mut rng).text));
     });
 }

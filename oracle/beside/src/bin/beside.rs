@@ -2,14 +2,16 @@
 //! ZIMLOKUR_LIB named at build time, `beside --model SEED COUNT` the model, to try the comparison.
 //! In place of SEED and COUNT: `--short` takes every short string behind the prefixes, `--bytes` every
 //! edit of one byte of some texts, `--edits SEED COUNT` so many edits, `--values SEED COUNT` so many
-//! types and values.
+//! types and values, `--numerals SEED COUNT` so many numerals around the limits.
 
 use beside::port::{Model, Port};
 use beside::shrink::shrink;
-use beside::{big, check, reread, rooms};
+use beside::{big, check, long, reread, rooms};
 use judge::{files, hex, left_out, reads_on};
+use model::fold;
 use std::collections::BTreeMap;
 use std::process::ExitCode;
+use texts::numerals::{self, Placed};
 use texts::rng::Rng;
 use texts::{clang, cover, maker, mutate, short, Texts};
 
@@ -53,14 +55,50 @@ impl Answers {
     }
 }
 
+/// What was tried with numerals (M-103).
+#[derive(Default)]
+struct Numerals {
+    drawn: u64,
+    /// Some of these cut short at every place, as texts of their own.
+    cut_short: u64,
+    /// Cuts of the model's fold.
+    cuts: u64,
+    /// With an exponent of five digits and more.
+    long: u64,
+    /// Of these, for which the Rust has another value, as the rule says.
+    differ: u64,
+}
+
+impl Numerals {
+    fn add(&mut self, other: Numerals) {
+        self.drawn += other.drawn;
+        self.cut_short += other.cut_short;
+        self.cuts += other.cuts;
+        self.long += other.long;
+        self.differ += other.differ;
+    }
+
+    fn show(&self) -> String {
+        let Numerals { drawn, cut_short, cuts, long, differ } = self;
+        format!(
+            "{drawn} numerals, {cut_short} cut short, {long} with a long exponent, which the Rust does not count \
+             to its end in {differ}; the fold cut in {cuts} places\n"
+        )
+    }
+}
+
 #[derive(Default)]
 struct Report {
     texts: Answers,
     rooms: u64,
     edits: Answers,
     altered: Answers,
+    numerals: Numerals,
     wrong: Vec<String>,
 }
+
+const USAGE: &str =
+    "usage: beside [--model] ([--edits | --values | --numerals] SEED COUNT | --short | --bytes)";
 
 /// So many differences are shown; more would be the same ones again.
 const SHOWN: usize = 20;
@@ -70,6 +108,9 @@ const SPARES: [(usize, usize); 2] = [(0, 0), (9, 4)];
 
 /// One text in so many is read in every room.
 const ROOMS: u64 = 16;
+
+/// One numeral in so many is cut short at every place.
+const CUT_SHORT: u64 = 128;
 
 impl Report {
     fn wrong(&mut self, text: &[u8], why: &str) {
@@ -147,11 +188,34 @@ impl Report {
         }
     }
 
+    /// A numeral in its text, and the model's fold of it, cut at every place.
+    fn numeral(&mut self, port: &dyn Port, placed: &Placed) {
+        self.text(port, &placed.text);
+        self.numerals.drawn += 1;
+        match fold::held(placed.rest(), fold::every) {
+            Ok(cuts) => self.numerals.cuts += cuts,
+            Err(why) => self.wrong(&placed.text, &format!("fold: {why}")),
+        }
+    }
+
+    fn long(&mut self, port: &dyn Port, numeral: &long::Long) {
+        self.numerals.long += 1;
+        match long::check(port, numeral) {
+            Ok(found) => {
+                self.texts.count(found.number, b"");
+                self.numerals.cuts += found.cuts;
+                self.numerals.differ += u64::from(found.differs);
+            }
+            Err(why) => self.wrong(b"", &why),
+        }
+    }
+
     fn add(&mut self, other: Report) {
         self.texts.add(other.texts);
         self.rooms += other.rooms;
         self.edits.add(other.edits);
         self.altered.add(other.altered);
+        self.numerals.add(other.numerals);
         self.wrong.extend(other.wrong);
     }
 
@@ -165,6 +229,9 @@ impl Report {
         out.push_str(&format!("{} readings in rooms around the exact fit\n", self.rooms));
         out.push_str(&self.edits.show("edits re-read"));
         out.push_str(&self.altered.show("altered calls"));
+        if self.numerals.drawn + self.numerals.long > 0 {
+            out.push_str(&self.numerals.show());
+        }
         out.push_str(&format!("{} differences\n", self.wrong.len()));
         out
     }
@@ -280,6 +347,31 @@ fn values(port: &dyn Port, seed: u64, count: u64) -> Report {
     report
 }
 
+/// Numerals around the limits, so many texts; those cut short count too.
+fn numerals(port: &dyn Port, seed: u64, count: u64) -> Report {
+    let mut report = Report::default();
+    let mut rng = Rng::new(seed);
+    while report.texts.all() < count && report.wrong.len() < SHOWN {
+        let placed = numerals::placed(&mut rng);
+        report.numeral(port, &placed);
+        if report.numerals.drawn % CUT_SHORT == 0 {
+            let left = count.saturating_sub(report.texts.all());
+            placed.cut_short().take(left as usize).for_each(|text| {
+                report.text(port, &text);
+                report.numerals.cut_short += 1;
+            });
+        }
+    }
+    report
+}
+
+/// The numerals with long exponents that every run tries.
+fn long_numerals(port: &dyn Port) -> Report {
+    let mut report = Report::default();
+    long::all().iter().for_each(|numeral| report.long(port, numeral));
+    report
+}
+
 /// Every short string behind the prefixes, one half of them.
 fn half_of_short(port: &dyn Port, half: u64) -> Report {
     let mut report = Report::default();
@@ -306,6 +398,13 @@ fn halves(part: Part, port: &'static dyn Port, seed: u64, count: u64) -> Vec<Wor
 fn stream_work(port: &'static dyn Port, seed: u64, count: u64) -> Vec<Work> {
     let mut work = halves(stream, port, seed, count);
     work.push(Box::new(move || fixed(port)));
+    work
+}
+
+/// Two halves, and the long ones.
+fn numeral_work(port: &'static dyn Port, seed: u64, count: u64) -> Vec<Work> {
+    let mut work = halves(numerals, port, seed, count);
+    work.push(Box::new(move || long_numerals(port)));
     work
 }
 
@@ -350,8 +449,9 @@ fn start(args: &[&str]) -> Result<bool, String> {
         ["--bytes"] => run(byte_work(port)),
         ["--edits", seed, count] => run(halves(edits, port, number(seed)?, number(count)?)),
         ["--values", seed, count] => run(halves(values, port, number(seed)?, number(count)?)),
+        ["--numerals", seed, count] => run(numeral_work(port, number(seed)?, number(count)?)),
         [seed, count] => run(stream_work(port, number(seed)?, number(count)?)),
-        _ => Err("usage: beside [--model] ([--edits | --values] SEED COUNT | --short | --bytes)".to_string()),
+        _ => Err(USAGE.to_string()),
     }
 }
 

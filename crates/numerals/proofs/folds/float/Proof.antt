@@ -31,25 +31,21 @@ refused : (r : Decimal) (o : Option ℕ) (neg : Bool) → r ≡ Unsupported → 
 unfolding floatLiteral bitsOf
 refused r o neg e f = rw (← f, e)
 
-add-t9 : tie.Need-add-t9
-add-t9 c = (let h = free (c .before .before .before .before .decimal-bits .result) (c .before .before .b .given .0 .0) (c .before .before .b .given .1) (c .before .before .before .before .decimal-bits .ensures .1) in omega arith)
+add-t8 : tie.Need-add-t8
+add-t8 c = (let h = free (c .before .before .before .before .decimal-bits .result) (c .before .before .b .given .0 .0) (c .before .before .b .given .1) (c .before .before .before .before .decimal-bits .ensures .1) in omega arith)
 
 returns : tie.Need-returns
 returns c =
-    let c2 = c .before .before in
-    let c4 = c2 .before .before in
-    minus (c4 .decimal-bits .result) (c2 .b .given .0 .0) _ (c4 .before .before .args .neg) (c2 .b .given .1) (c4 .decimal-bits .ensures .0) (c .if1 .taken)
+    minus (c .before .before .before .before .decimal-bits .result) (c .before .before .b .given .0 .0) _ _ (c .before .before .b .given .1) (c .before .before .before .before .decimal-bits .ensures .0) (c .if1 .taken)
 
 returns-2 : tie.Need-returns-2
 returns-2 c =
-    let c2 = c .before .before in
-    let c4 = c2 .before .before in
-    plus (c4 .decimal-bits .result) (c2 .b .given .0 .0) _ (c4 .before .before .args .neg) (c2 .b .given .1) (c4 .decimal-bits .ensures .0) (c .if1 .left)
+    plus (c .before .before .before .before .decimal-bits .result) (c .before .before .b .given .0 .0) _ _ (c .before .before .b .given .1) (c .before .before .before .before .decimal-bits .ensures .0) (c .if1 .left)
 
 returns-3 : tie.Need-returns-3
-returns-3 c = refused (c .before .before .decimal-bits .result) _ (c .before .before .before .before .args .neg) (c .enum-told .given .1) (c .before .before .decimal-bits .ensures .0)
+returns-3 c = refused (c .before .before .decimal-bits .result) _ _ (c .enum-told .given .1) (c .before .before .decimal-bits .ensures .0)
 
 pub float-spec : {M : Type 1} → statement M
 float-spec =
     tie.close
-    (tie.spec (λ c. search needs) (λ c. search needs) add-t9 returns (λ c. search needs) returns-2 returns-3)
+    (tie.spec (λ c. search needs) (λ c. search needs) add-t8 returns (λ c. search needs) returns-2 returns-3)
