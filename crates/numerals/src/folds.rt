@@ -90,14 +90,14 @@ pub fn pass_sign(s: Fold, neg: bool) -> Fold
 }
 
 // The point, or the exponent's letter.
-pub fn in_phase(s: Fold, phase: Phase) -> Fold
+fn in_phase(s: Fold, phase: Phase) -> Fold
     ensures { λ r. ⌜ r ≡ inPhase phase s ⌝ }
 {
     moved(s, phase, s.neg, s.down)
 }
 
 // A digit before the point.
-pub fn whole_digit(s: Fold, d: u8) -> Fold
+fn whole_digit(s: Fold, d: u8) -> Fold
     ensures { λ r. ⌜ r ≡ wholePushed s d ⌝ }
 {
     let w = s.whole;
@@ -116,7 +116,7 @@ pub fn whole_digit(s: Fold, d: u8) -> Fold
 }
 
 // A digit behind the point.
-pub fn part_digit(s: Fold, d: u8) -> Fold
+fn part_digit(s: Fold, d: u8) -> Fold
     ensures { λ r. ⌜ r ≡ partPushed s d ⌝ }
 {
     let w = s.whole;
@@ -136,14 +136,14 @@ pub fn part_digit(s: Fold, d: u8) -> Fold
 }
 
 // The exponent's sign: is it a minus?
-pub fn power_sign(s: Fold, down: bool) -> Fold
+fn power_sign(s: Fold, down: bool) -> Fold
     ensures { λ r. ⌜ r ≡ powerSigned s down ⌝ }
 {
     moved(s, Phase::Sign, s.neg, down)
 }
 
 // A digit of the exponent.
-pub fn power_digit(s: Fold, d: u8) -> Fold
+fn power_digit(s: Fold, d: u8) -> Fold
     ensures { λ r. ⌜ r ≡ powerPushed s d ⌝ }
 {
     let w = s.whole;
