@@ -1,5 +1,6 @@
-/* What an edit changes. Standard input has the older text, a byte 0 and the newer text; prints which pieces were read again and the listing
- * of the newer text's pieces, or where a text is refused. Exits 0 for either, 2 without two texts that fit.
+/* An afternoon of edits. Standard input has texts with a byte 0 between them. The first is read in full; each other one is read again in the
+ * same arrays, as an edit of the last text that was accepted. Prints for each of those which pieces were read again, or where it is refused,
+ * and in the end the listing of the pieces of the last accepted text. Exits 0, refused texts or none; 2 without two texts that fit.
  * cc -Iinclude examples/edit.c target/staticlib/libzimlokur.a -o target/edit */
 #include "common.h"
 
@@ -10,39 +11,54 @@ static uint8_t input[MOST_BYTES + 1];
 static uint64_t words[WORDS];
 static uint64_t directory[DIRECTORY_WORDS];
 
-/* The newer text is read in the arrays as the full reading of the older one left them: re-reading keeps pieces of what stands there. */
-static void edit(struct text older, struct text newer) {
-  struct room room = {words, WORDS, directory, DIRECTORY_WORDS};
-  struct answer answer = read_text(older, room);
-  struct edit edit;
-  if (answer.question) {
-    printf("older ");
-    refusal_line(older, answer.question, answer.place);
-    return;
-  }
-  edit = reread_text(older, newer, room, answer.entries);
-  if (edit.answer.question) {
-    refusal_line(newer, edit.answer.question, edit.answer.place);
-    return;
-  }
-  printf("first %" PRIu64 " read %" PRIu64 "\n", edit.first, edit.read);
-  list_pieces(room, edit.answer.entries);
+/* The text from there on, up to the next byte 0 or the input's end. */
+static struct text text_at(size_t start, size_t length) {
+  const uint8_t *from = input + start, *end = memchr(from, 0, length - start);
+  struct text text = {from, end ? (size_t)(end - from) : length - start};
+  return text;
 }
 
-/* The first byte 0 ends the older text; any other one belongs to the newer. Gives the status to end with. */
-static int edit_of(size_t length) {
-  const uint8_t *end = memchr(input, 0, length);
+/* A refused edit leaves the arrays as they were: they still hold the records of the last accepted text, and the next edit is one of that. */
+static uint64_t edits_of(struct text last, struct room room, uint64_t entries, size_t length) {
+  size_t start = last.length + 1;
+  while (start <= length) {
+    struct text newer = text_at(start, length);
+    struct edit edit = reread_text(last, newer, room, entries);
+    if (edit.answer.question) {
+      refusal_line(newer, edit.answer.question, edit.answer.place);
+    } else {
+      printf("first %" PRIu64 " read %" PRIu64 "\n", edit.first, edit.read);
+      last = newer;
+      entries = edit.answer.entries;
+    }
+    start += newer.length + 1;
+  }
+  return entries;
+}
+
+static void afternoon(size_t length) {
+  struct room room = {words, WORDS, directory, DIRECTORY_WORDS};
+  struct text first = text_at(0, length);
+  struct answer answer = read_text(first, room);
+  if (answer.question) {
+    printf("older ");
+    refusal_line(first, answer.question, answer.place);
+    return;
+  }
+  list_pieces(room, edits_of(first, room, answer.entries, length));
+}
+
+/* Gives the status to end with. */
+static int afternoon_of(size_t length) {
   if (length > MOST_BYTES) {
     puts("too long");
     return STATUS_BAD_INPUT;
   }
-  if (!end) {
+  if (!memchr(input, 0, length)) {
     puts("no newer text");
     return STATUS_BAD_INPUT;
   }
-  struct text older = {input, (size_t)(end - input)};
-  struct text newer = {end + 1, length - older.length - 1};
-  edit(older, newer);
+  afternoon(length);
   return STATUS_FINE;
 }
 
@@ -50,5 +66,5 @@ int main(void) {
   size_t length = fread(input, 1, sizeof input, stdin);
   if (ferror(stdin))
     return complain("edit", "standard input", "cannot be read");
-  return finish("edit", edit_of(length));
+  return finish("edit", afternoon_of(length));
 }

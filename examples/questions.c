@@ -1,5 +1,6 @@
 /* Holds the refusals that docs/QUESTIONS.md shows against the library. The file that is named, runs/questions.txt, tells its form.
- * Each text must be refused with that number at that place, and leave both arrays zero; each number from 1 to 22 must be there.
+ * Each text must be refused with that number at that place; a full reading must leave both arrays zero, a re-reading as they were lent. Each
+ * number from 1 to 22 must be there.
  * Exits 0 if so, 1 if a line differs, is in no form or a number is missing, 2 if there is no file to read.
  * cc -Iinclude examples/questions.c target/staticlib/libzimlokur.a -o target/questions */
 #include "zimlokur.h"
@@ -49,10 +50,10 @@ static int decode(const char *from, size_t *length) {
   return 1;
 }
 
-/* Is every word zero? */
-static int zero(const uint64_t *array, size_t length) {
+/* Is every word this one? */
+static int holds(const uint64_t *array, size_t length, uint64_t word) {
   for (size_t k = 0; k < length; k++)
-    if (array[k] != 0)
+    if (array[k] != word)
       return 0;
   return 1;
 }
@@ -63,20 +64,23 @@ static unsigned long check(const char *line) {
   char call[6];
   int rest = 0;
   size_t length;
-  uint64_t q, p = 0, entries = 1, first = 0, read = 0;
+  uint64_t q, p = 0, entries = 1, first = 0, read = 0, left;
   if (sscanf(line, "%lu %lu %5s %lu %lu%n", &number, &place, call, &lent, &entry_words, &rest) != 5 || line[rest] != ' ')
     return 0;
   if (lent > WORDS || entry_words > DIRECTORY_WORDS || !decode(line + rest + 1, &length))
     return 0;
   memset(words, 255, sizeof words);
   memset(directory, 255, sizeof directory);
-  if (strcmp(call, "again") == 0)
+  if (strcmp(call, "again") == 0) {
     q = zimlokur_reparse_define(NULL, 0, text, length, words, lent, directory, entry_words, 0, &p, &entries, &first, &read);
-  else if (strcmp(call, "read") == 0)
+    left = UINT64_MAX;
+  } else if (strcmp(call, "read") == 0) {
     q = zimlokur_parse_define(text, length, words, lent, directory, entry_words, &p, &entries);
-  else
+    left = 0;
+  } else {
     return 0;
-  if (q != number || p != place || entries != 0 || !zero(words, lent) || !zero(directory, entry_words)) {
+  }
+  if (q != number || p != place || entries != 0 || !holds(words, lent, left) || !holds(directory, entry_words, left)) {
     printf("got %llu place %llu: ", (unsigned long long)q, (unsigned long long)p);
     return 0;
   }

@@ -81,7 +81,7 @@ pub fn parse_define(text: &[u8], words: &mut [u64], directory: &mut [u64]) -> Re
     answer(question, place, entries)
 }
 
-/// The re-reading after an edit, in the arrays that hold the records of the older text.
+/// The re-reading after an edit, in the arrays that hold the records of the older text. A refused one leaves both arrays as they were.
 pub fn reparse_define(
     older: &[u8],
     newer: &[u8],

@@ -20,6 +20,8 @@ enum fault {
   WORDS_OF_ONES,
   ACCEPTS_A_CUT,
   OLDER_RECORDS,
+  ZEROS_ON_REFUSAL,
+  WORD_CHANGED_ON_REFUSAL,
   ALTERED_WORDS = 100 /* and above: altered in that many ways */
 };
 
@@ -127,6 +129,21 @@ static void spoil_records(uint64_t *words, size_t words_len, uint64_t *directory
   }
 }
 
+/* What a refused re-reading must leave as it was, spoiled. */
+static void spoil_older_records(uint64_t *words, size_t words_len, uint64_t *directory, size_t directory_len) {
+  switch (fault()) {
+  case ZEROS_ON_REFUSAL:
+    memset(words, 0, words_len * sizeof *words);
+    memset(directory, 0, directory_len * sizeof *directory);
+    break;
+  case WORD_CHANGED_ON_REFUSAL:
+    words[words_len - 1]++;
+    break;
+  default:
+    break;
+  }
+}
+
 uint64_t __wrap_zimlokur_parse_define(const uint8_t *text, size_t text_len, uint64_t *words, size_t words_len, uint64_t *directory,
                                       size_t directory_len, uint64_t *place, uint64_t *entries) {
   uint64_t question = __real_zimlokur_parse_define(text, text_len, words, words_len, directory, directory_len, place, entries);
@@ -139,10 +156,15 @@ uint64_t __wrap_zimlokur_parse_define(const uint8_t *text, size_t text_len, uint
 uint64_t __wrap_zimlokur_reparse_define(const uint8_t *older, size_t older_len, const uint8_t *newer, size_t newer_len, uint64_t *words,
                                         size_t words_len, uint64_t *directory, size_t directory_len, uint64_t older_entries,
                                         uint64_t *place, uint64_t *entries, uint64_t *first, uint64_t *read) {
-  if (fault() != OLDER_RECORDS)
-    return __real_zimlokur_reparse_define(older, older_len, newer, newer_len, words, words_len, directory, directory_len, older_entries,
-                                          place, entries, first, read);
-  *place = *first = *read = 0;
-  *entries = older_entries;
-  return 0;
+  uint64_t question;
+  if (fault() == OLDER_RECORDS) {
+    *place = *first = *read = 0;
+    *entries = older_entries;
+    return 0;
+  }
+  question = __real_zimlokur_reparse_define(older, older_len, newer, newer_len, words, words_len, directory, directory_len, older_entries,
+                                            place, entries, first, read);
+  if (question)
+    spoil_older_records(words, words_len, directory, directory_len);
+  return question;
 }

@@ -22,7 +22,7 @@ pub fn clear(words: &mut [u64], from: usize)
     }
 }
 
-// A refusal leaves zeros.
+// A refused full reading leaves zeros.
 pub fn wipe(words: &mut [u64], directory: &mut [u64])
     ensures { λ r. ⌜ (now (words .exit) ≡ pad (length (now (words .entry))) []) × (now (directory .exit) ≡ pad (length (now (directory .entry))) []) ⌝ }
 {

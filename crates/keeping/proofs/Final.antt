@@ -156,7 +156,7 @@ module _ (T : ℕ) (ws : List ℕ) (n : ℕ) (dir : List ℕ) (c : Chained T (le
         → w3 ≡ take r w2 ++ replicate (length w2 - r) 0
         → (d2 d3 : List ℕ) → Put (take (k * 2) dir ++ readEntries posOf atOf fs) d1 (k + length fs) d2
         → d3 ≡ take ((k + length fs + (n - j)) * 2) d2 ++ replicate (length d2 - (k + length fs + (n - j)) * 2) 0
-        → leaveAgain ws (length dir) fine k rest (before (take k (oldsOf n dir)) rest) ≡ again-left (left (count (k + length fs + (n - j))) w3 d3) k (length fs)
+        → leaveAgain ws dir fine k rest (before (take k (oldsOf n dir)) rest) ≡ again-left (left (count (k + length fs + (n - j))) w3 d3) k (length fs)
     unfolding mv wordsLeft entriesLeft
     reread-left rest e w2 w3 lw tw dw ew d2 d3 g ed =
         let m : ℕ = oldWords (drop j (oldsOf n dir)) in
@@ -202,7 +202,7 @@ module _ (T len : ℕ) (ws : List ℕ) (n : ℕ) (dir : List ℕ) (c : Chained T
   -- behind it, and behind two calls of `clear`
   pub settled-left : (w2 w3 : List ℕ) → length w2 ≡ length ws → take at w2 ≡ take k₂ ws ++ readWords (g .fs) → drop at w2 ≡ drop at w1 → w3 ≡ take r w2 ++ replicate (length w2 - r) 0
       → (d2 d3 : List ℕ) → Put (take (k * 2) dir ++ readEntries k₁ k₂ (g .fs)) d1 i d2 → d3 ≡ take ((i + (n - j)) * 2) d2 ++ replicate (length d2 - (i + (n - j)) * 2) 0
-      → leaveAgain ws (length dir) v k rest (before (take k (oldsOf n dir)) rest) ≡ again-left (left (count (i + (n - j))) w3 d3) k (i - k)
+      → leaveAgain ws dir v k rest (before (take k (oldsOf n dir)) rest) ≡ again-left (left (count (i + (n - j))) w3 d3) k (i - k)
   settled-left w2 w3 lw tw dw ew d2 d3 p ed =
       let z : i - k ≡ length (g .fs) = omega (arith, g .number) in
       rw (g .is, z)
@@ -214,11 +214,11 @@ module _ (T len : ℕ) (ws : List ℕ) (n : ℕ) (dir : List ℕ) (c : Chained T
 
 -- ---- the calls from outside
 reread-frame : (headAt : List ℕ → HeadRead) (blockAt : List ℕ → BlockRead) (ws dir older newer : List ℕ) (q p : ℕ) → textAsked newer ≡ refused q p → (o : Option (List Old))
-    → rereadOf headAt blockAt ws dir older newer o ≡ again-left (left (refusedAt q p) (pad (length ws) []) (pad (length dir) [])) 0 0
+    → rereadOf headAt blockAt ws dir older newer o ≡ again-left (left (refusedAt q p) ws dir) 0 0
 unfolding rereadOf andThen
-reread-frame headAt blockAt ws dir older newer q p h none = rw h (left-refused ws (length dir) q p 0 done done)
+reread-frame headAt blockAt ws dir older newer q p h none = rw h (left-refused ws dir q p 0 done done)
 reread-frame headAt blockAt ws dir older newer q p h (some os) =
-    rw h (left-refused ws (length dir) q p (keeps headAt blockAt older newer os) (rest headAt blockAt older newer os) (before (take (keeps headAt blockAt older newer os) os) (rest headAt blockAt older newer os)))
+    rw h (left-refused ws dir q p (keeps headAt blockAt older newer os) (rest headAt blockAt older newer os) (before (take (keeps headAt blockAt older newer os) os) (rest headAt blockAt older newer os)))
 
 module _ (headAt : List ℕ → HeadRead) (blockAt : List ℕ → BlockRead) where
   -- a full reading
@@ -232,23 +232,23 @@ module _ (headAt : List ℕ → HeadRead) (blockAt : List ℕ → BlockRead) whe
 
   -- a re-reading: questions 1 and 2, then 22
   pub reread-text : (ws dir : List ℕ) (n : ℕ) (older newer : List ℕ) (q p : ℕ) → textAsked newer ≡ refused q p
-      → reread headAt blockAt ws dir n older newer ≡ again-left (left (refusedAt q p) (pad (length ws) []) (pad (length dir) [])) 0 0
+      → reread headAt blockAt ws dir n older newer ≡ again-left (left (refusedAt q p) ws dir) 0 0
   unfolding reread
   reread-text ws dir n older newer q p h = reread-frame headAt blockAt ws dir older newer q p h (olds (length older) (length ws) n dir)
 
   pub reread-unchained : (ws dir : List ℕ) (n : ℕ) (older newer : List ℕ) → textAsked newer ≡ fine → answers (olds (length older) (length ws) n dir) ≡ false
-      → reread headAt blockAt ws dir n older newer ≡ again-left (left (refusedAt 22 0) (pad (length ws) []) (pad (length dir) [])) 0 0
+      → reread headAt blockAt ws dir n older newer ≡ again-left (left (refusedAt 22 0) ws dir) 0 0
   unfolding reread rereadOf andThen
-  reread-unchained ws dir n older newer h a = rw (not-chained (olds (length older) (length ws) n dir) a, h) (left-refused ws (length dir) 22 0 0 done done)
+  reread-unchained ws dir n older newer h a = rw (not-chained (olds (length older) (length ws) n dir) a, h) (left-refused ws dir 22 0 0 done done)
 
   -- then all that is left is the verdict on the pieces
   module _ (ws dir : List ℕ) (n : ℕ) (older newer : List ℕ) (h : textAsked newer ≡ fine) (c : Chained (length older) (length ws) n dir) where
     pub reread-is : reread headAt blockAt ws dir n older newer
-        ≡ leaveAgain ws (length dir) (judgeAgain headAt blockAt (length ws) (length dir) older newer (oldsOf n dir)) (keeps headAt blockAt older newer (oldsOf n dir)) (rest headAt blockAt older newer (oldsOf n dir))
+        ≡ leaveAgain ws dir (judgeAgain headAt blockAt (length ws) (length dir) older newer (oldsOf n dir)) (keeps headAt blockAt older newer (oldsOf n dir)) (rest headAt blockAt older newer (oldsOf n dir))
         (before (take (keeps headAt blockAt older newer (oldsOf n dir)) (oldsOf n dir)) (rest headAt blockAt older newer (oldsOf n dir)))
     unfolding reread rereadOf andThen
     reread-is = rw (c .is, h)
 
     pub reread-refused : (q p : ℕ) → judgeAgain headAt blockAt (length ws) (length dir) older newer (oldsOf n dir) ≡ refused q p
-        → reread headAt blockAt ws dir n older newer ≡ again-left (left (refusedAt q p) (pad (length ws) []) (pad (length dir) [])) 0 0
-    reread-refused q p v = reread-is ∙ rw v (left-refused ws (length dir) q p (keeps headAt blockAt older newer (oldsOf n dir)) (rest headAt blockAt older newer (oldsOf n dir)) (before (take (keeps headAt blockAt older newer (oldsOf n dir)) (oldsOf n dir)) (rest headAt blockAt older newer (oldsOf n dir))))
+        → reread headAt blockAt ws dir n older newer ≡ again-left (left (refusedAt q p) ws dir) 0 0
+    reread-refused q p v = reread-is ∙ rw v (left-refused ws dir q p (keeps headAt blockAt older newer (oldsOf n dir)) (rest headAt blockAt older newer (oldsOf n dir)) (before (take (keeps headAt blockAt older newer (oldsOf n dir)) (oldsOf n dir)) (rest headAt blockAt older newer (oldsOf n dir))))

@@ -230,15 +230,15 @@ module _ (T : ℕ) (ws : List ℕ) (n : ℕ) (dir : List ℕ) (c : Chained T (le
 
     -- an accepted re-reading
     pub left-fine : (rest : Run Source) → rest ≡ restLeft n dir j fs
-        → leaveAgain ws (length dir) fine k rest (before (take k (oldsOf n dir)) rest)
+        → leaveAgain ws dir fine k rest (before (take k (oldsOf n dir)) rest)
         ≡ again-left (left (count (k + length fs + (n - j))) (pad (length ws) (wordsLeft ws n dir k j fs)) (pad (length dir) (entriesLeft n dir k j fs))) k (length fs)
     unfolding leaveAgain leave
     left-fine rest e = rw (e, words-left, entries-left, count-left, read-left)
 
 -- a refused one
-pub left-refused : (ws : List ℕ) (d q p k : ℕ) (r all : Run Source) → leaveAgain ws d (refused q p) k r all ≡ again-left (left (refusedAt q p) (pad (length ws) []) (pad d [])) 0 0
-unfolding leaveAgain leave
-left-refused ws d q p k r all = refl
+pub left-refused : (ws dir : List ℕ) (q p k : ℕ) (r all : Run Source) → leaveAgain ws dir (refused q p) k r all ≡ again-left (left (refusedAt q p) ws dir) 0 0
+unfolding leaveAgain
+left-refused ws dir q p k r all = refl
 
 -- ---- what a full reading leaves
 pub full-fine : (W D : ℕ) (fs : List (ℕ × List ℕ)) (r : Run (List ℕ)) → r ≡ fullThen fs done → leave W D fine r ≡ left (count (length fs)) (pad W (readWords fs)) (pad D (readEntries 0 0 fs))

@@ -3,14 +3,14 @@
 -- Assumes nothing.
 use mathlib.Core.Path.{_≡_, refl, sym, ap, _∙_, subst}
 use mathlib.Core.Bool.{true, false}
-use mathlib.Core.List.{List, [], _++_}
+use mathlib.Core.List.{List, _++_}
 use Prim.Native.Nat.{ℕ, _+_, _-_, _*_, _≤_, _<_}
 use native.Mathlib.Omega.{arith}
 use lib.ListN.{length, take, drop, replicate, length-append, length-drop}
 use lib.Seq.{length-take-le, paste}
 use Rattle.records.specs.Questions.{qOlder}
 use Rattle.records.specs.Limits.{halfLimit}
-use Rattle.records.specs.Pieces.{Old, oldSizes, oldWords, common, commonEnd, fine, refused, textAsked, refusedAt, count, left, pad, olds, again-left, behindFront, rest}
+use Rattle.records.specs.Pieces.{Old, oldSizes, oldWords, common, commonEnd, fine, refused, textAsked, refusedAt, count, left, olds, again-left, behindFront, rest}
 use Rattle.grammar.specs.Function.{headAt, blockAt, rereadingOf}
 use Rattle.directory.specs.Olds.{answers, oldsOf, moved, FrontIs, KeptBehind}
 use Rattle.keeping.specs.Place.{readSize, readWords, readEntries, Settled}
@@ -31,12 +31,12 @@ pub front-common : (older newer : List ℕ) (a : ℕ) (os : List Old) (k start f
 front-common older newer a os k start first q f = subst (λ (s : List ℕ). FrontIs s os k start first) (ap (λ (x : ℕ). take x newer) q ∙ common-take older newer) f
 
 -- questions 1, 2 and 22
-pub again-text : (ws dir : List ℕ) (n : ℕ) (older newer : List ℕ) (q p : ℕ) → refused q p ≡ textAsked newer → again-left (left (refusedAt q p) (pad (length ws) []) (pad (length dir) [])) 0 0 ≡ rereadingOf ws dir n older newer
+pub again-text : (ws dir : List ℕ) (n : ℕ) (older newer : List ℕ) (q p : ℕ) → refused q p ≡ textAsked newer → again-left (left (refusedAt q p) ws dir) 0 0 ≡ rereadingOf ws dir n older newer
 unfolding rereadingOf
 again-text ws dir n older newer q p h = sym (reread-text headAt blockAt ws dir n older newer q p (sym h))
 
 pub again-unchained : (ws dir : List ℕ) (n : ℕ) (older newer : List ℕ) → fine ≡ textAsked newer → false ≡ answers (olds (length older) (length ws) n dir)
-    → again-left (left (refusedAt qOlder 0) (pad (length ws) []) (pad (length dir) [])) 0 0 ≡ rereadingOf ws dir n older newer
+    → again-left (left (refusedAt qOlder 0) ws dir) 0 0 ≡ rereadingOf ws dir n older newer
 unfolding rereadingOf
 again-unchained ws dir n older newer h a = sym (reread-unchained headAt blockAt ws dir n older newer (sym h) (sym a))
 
@@ -55,7 +55,7 @@ module _ (older newer ws : List ℕ) (n : ℕ) (dir : List ℕ) (g : Given older
   unfolding rest
   rest-is = refl
 
-  pub again-refused : (q p : ℕ) → said older newer (length ws) n dir ≡ refused q p → again-left (left (refusedAt q p) (pad (length ws) []) (pad (length dir) [])) 0 0 ≡ rereadingOf ws dir n older newer
+  pub again-refused : (q p : ℕ) → said older newer (length ws) n dir ≡ refused q p → again-left (left (refusedAt q p) ws dir) 0 0 ≡ rereadingOf ws dir n older newer
   unfolding rereadingOf
   again-refused q p v = sym (reread-refused headAt blockAt ws dir n older newer h (g .chained) q p v)
 

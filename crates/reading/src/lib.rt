@@ -33,7 +33,7 @@ pub enum Reread {
     Refused(u64, u64),
 }
 
-// A refused reading.
+// A refused full reading leaves zeros.
 fn refuse(words: &mut [u64], directory: &mut [u64], q: u64, p: u64) -> Answer
     ensures { λ r. ⌜ leftBy r (now (words .exit)) (now (directory .exit)) ≡ left (refusedAt q p) (pad (length (now (words .entry))) []) (pad (length (now (directory .entry))) []) ⌝ }
 {
@@ -41,11 +41,10 @@ fn refuse(words: &mut [u64], directory: &mut [u64], q: u64, p: u64) -> Answer
     Answer::Refused(q, p)
 }
 
-// A refused re-reading.
+// A refused re-reading leaves both arrays as they were lent (02: M-113): the first pass wrote nothing, so there is nothing to undo.
 fn refuse_again(words: &mut [u64], directory: &mut [u64], q: u64, p: u64) -> Reread
-    ensures { λ r. ⌜ leftAgain r (now (words .exit)) (now (directory .exit)) ≡ again-left (left (refusedAt q p) (pad (length (now (words .entry))) []) (pad (length (now (directory .entry))) [])) 0 0 ⌝ }
+    ensures { λ r. ⌜ leftAgain r (now (words .exit)) (now (directory .exit)) ≡ again-left (left (refusedAt q p) (now (words .entry)) (now (directory .entry))) 0 0 ⌝ }
 {
-    wipe(words, directory);
     Reread::Refused(q, p)
 }
 
@@ -109,7 +108,7 @@ fn read_again(
 }
 
 // Reads one function again after an edit, in the arrays that hold the records of the older text, as many entries as are lent: only what the edit
-// can have changed is read, and the other pieces are kept.
+// can have changed is read, and the other pieces are kept. A refused edit leaves both arrays as they were.
 pub fn reparse_define(
     older: &[u8],
     newer: &[u8],

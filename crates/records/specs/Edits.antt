@@ -52,16 +52,17 @@ abbrev pub parts : List ℕ → List ℕ
 parts [] = []
 parts (x ∷ xs) = hi x ∷ lo x ∷ parts xs
 
--- Refused: 0, number, place, both arrays. Accepted: 1, first, read, the entry count, the words, the directory's fields.
+-- Refused: 0, number, place. Accepted: 1, first, read, the entry count. Then the words and the directory's fields.
 abbrev pub shownLeft : ℕ → ℕ → Pieces.Left → List ℕ
-shownLeft a b (Pieces.left (Pieces.refusedAt q p) ws ds) = 0 ∷ q ∷ p ∷ (ws ++ ds)
+shownLeft a b (Pieces.left (Pieces.refusedAt q p) ws ds) = 0 ∷ q ∷ p ∷ (ws ++ parts ds)
 shownLeft a b (Pieces.left (Pieces.count n) ws ds) = 1 ∷ a ∷ b ∷ n ∷ (ws ++ parts ds)
 
 abbrev pub shown : Pieces.Again → List ℕ
 shown (Pieces.again-left l a b) = shownLeft a b l
 
+-- Where the full reading of the older text is refused: 9, then what that leaves.
 abbrev pub againOn : Pieces.Left → List ℕ → List ℕ → List ℕ
-againOn (Pieces.left (Pieces.refusedAt q p) ws ds) older newer = 9 ∷ q ∷ p ∷ []
+againOn (Pieces.left (Pieces.refusedAt q p) ws ds) older newer = 9 ∷ shownLeft 0 0 (Pieces.left (Pieces.refusedAt q p) ws ds)
 againOn (Pieces.left (Pieces.count n) ws ds) older newer = shown (Pieces.reread headAt blockAt ws ds n older newer)
 
 unfoldable pub outcome : Edit → List ℕ
@@ -109,6 +110,8 @@ edits =
     ∷ edit (made 9 6) (bytes "h{xa.}") (bytes "h{xa.b.}")
     -- The word behind a block is `addrspace`: that block is read again.
     ∷ edit (made 30 8) (bytes "h{a.addrspace .}") (bytes "h{a.addrspace b.}")
+    -- The older text is refused: a full reading leaves zeros.
+    ∷ edit (made 5 6) (bytes "h{a.b") (bytes "h{a.}")
     ∷ []
 
 abbrev pub outcomes : List (List ℕ)
@@ -124,11 +127,11 @@ outcomes =
     -- A byte put before the first block: first 0, read 2, two kept behind.
     ∷ (1 ∷ 0 ∷ 2 ∷ 4 ∷ 104 ∷ 123 ∷ 120 ∷ 97 ∷ 46 ∷ 98 ∷ 46 ∷ 0 ∷ 0 ∷ 0 ∷ 2 ∷ 0 ∷ 2 ∷ 2 ∷ 3 ∷ 2 ∷ 3 ∷ 5 ∷ 2 ∷ 5 ∷ 2 ∷ 7 ∷ 1 ∷ 7 ∷ 0 ∷ [])
     -- The same without room for the words: 20 at the end of the kept block.
-    ∷ (0 ∷ 20 ∷ 7 ∷ 0 ∷ 0 ∷ 0 ∷ 0 ∷ 0 ∷ 0 ∷ 0 ∷ 0 ∷ 0 ∷ 0 ∷ 0 ∷ 0 ∷ 0 ∷ 0 ∷ [])
+    ∷ (0 ∷ 20 ∷ 7 ∷ 104 ∷ 123 ∷ 97 ∷ 46 ∷ 98 ∷ 46 ∷ 0 ∷ 2 ∷ 0 ∷ 2 ∷ 2 ∷ 2 ∷ 2 ∷ 2 ∷ 4 ∷ 2 ∷ 4 ∷ 2 ∷ 6 ∷ 1 ∷ 6 ∷ 0 ∷ [])
     -- An added block without room for the tail's entry: 21 at the end of the kept tail.
-    ∷ (0 ∷ 21 ∷ 7 ∷ 0 ∷ 0 ∷ 0 ∷ 0 ∷ 0 ∷ 0 ∷ 0 ∷ 0 ∷ 0 ∷ 0 ∷ 0 ∷ 0 ∷ 0 ∷ 0 ∷ 0 ∷ [])
+    ∷ (0 ∷ 21 ∷ 7 ∷ 104 ∷ 123 ∷ 97 ∷ 46 ∷ 0 ∷ 0 ∷ 0 ∷ 0 ∷ 0 ∷ 0 ∷ 2 ∷ 0 ∷ 2 ∷ 2 ∷ 2 ∷ 2 ∷ 2 ∷ 4 ∷ 1 ∷ 4 ∷ 0 ∷ [])
     -- A newer text that is refused.
-    ∷ (0 ∷ 3 ∷ 5 ∷ 0 ∷ 0 ∷ 0 ∷ 0 ∷ 0 ∷ 0 ∷ 0 ∷ 0 ∷ 0 ∷ 0 ∷ 0 ∷ 0 ∷ 0 ∷ 0 ∷ 0 ∷ 0 ∷ 0 ∷ [])
+    ∷ (0 ∷ 3 ∷ 5 ∷ 104 ∷ 123 ∷ 97 ∷ 46 ∷ 0 ∷ 0 ∷ 0 ∷ 0 ∷ 0 ∷ 0 ∷ 2 ∷ 0 ∷ 2 ∷ 2 ∷ 2 ∷ 2 ∷ 2 ∷ 4 ∷ 1 ∷ 4 ∷ 0 ∷ 0 ∷ 0 ∷ 0 ∷ 0 ∷ [])
     -- Altered words survive in the pieces that are kept.
     ∷ (1 ∷ 2 ∷ 1 ∷ 3 ∷ 1 ∷ 2 ∷ 3 ∷ 4 ∷ 0 ∷ 0 ∷ 0 ∷ 2 ∷ 0 ∷ 2 ∷ 2 ∷ 2 ∷ 2 ∷ 2 ∷ 4 ∷ 1 ∷ 4 ∷ 0 ∷ [])
     -- Two older pieces with one start: the first such is kept.
@@ -136,21 +139,23 @@ outcomes =
     -- A head of length 0 is kept, and entry 1 is a block whatever its text.
     ∷ (1 ∷ 2 ∷ 1 ∷ 3 ∷ 1 ∷ 2 ∷ 3 ∷ 0 ∷ 0 ∷ 0 ∷ 0 ∷ 0 ∷ 0 ∷ 1 ∷ 0 ∷ 4 ∷ 1 ∷ 2 ∷ 4 ∷ 1 ∷ 3 ∷ 0 ∷ [])
     -- A tail that has words, kept behind.
-    ∷ (0 ∷ 20 ∷ 5 ∷ 0 ∷ 0 ∷ 0 ∷ 0 ∷ 0 ∷ 0 ∷ 0 ∷ 0 ∷ 0 ∷ 0 ∷ 0 ∷ 0 ∷ [])
+    ∷ (0 ∷ 20 ∷ 5 ∷ 1 ∷ 2 ∷ 3 ∷ 4 ∷ 5 ∷ 6 ∷ 0 ∷ 2 ∷ 0 ∷ 2 ∷ 2 ∷ 2 ∷ 2 ∷ 1 ∷ 4 ∷ 1 ∷ 3 ∷ 3 ∷ [])
     -- One entry only.
-    ∷ (0 ∷ 22 ∷ 0 ∷ 0 ∷ 0 ∷ 0 ∷ 0 ∷ 0 ∷ 0 ∷ 0 ∷ 0 ∷ 0 ∷ 0 ∷ 0 ∷ 0 ∷ [])
+    ∷ (0 ∷ 22 ∷ 0 ∷ 1 ∷ 2 ∷ 3 ∷ 4 ∷ 5 ∷ 6 ∷ 0 ∷ 2 ∷ 0 ∷ 2 ∷ 2 ∷ 2 ∷ 2 ∷ 2 ∷ 4 ∷ 1 ∷ 4 ∷ 0 ∷ [])
     -- An entry count of 2^64 - 1.
-    ∷ (0 ∷ 22 ∷ 0 ∷ 0 ∷ 0 ∷ 0 ∷ 0 ∷ 0 ∷ 0 ∷ 0 ∷ 0 ∷ 0 ∷ 0 ∷ 0 ∷ 0 ∷ [])
+    ∷ (0 ∷ 22 ∷ 0 ∷ 1 ∷ 2 ∷ 3 ∷ 4 ∷ 5 ∷ 6 ∷ 0 ∷ 2 ∷ 0 ∷ 2 ∷ 2 ∷ 2 ∷ 2 ∷ 2 ∷ 4 ∷ 1 ∷ 4 ∷ 0 ∷ [])
     -- An entry that does not start where the last ended.
-    ∷ (0 ∷ 22 ∷ 0 ∷ 0 ∷ 0 ∷ 0 ∷ 0 ∷ 0 ∷ 0 ∷ 0 ∷ 0 ∷ 0 ∷ 0 ∷ 0 ∷ 0 ∷ [])
+    ∷ (0 ∷ 22 ∷ 0 ∷ 1 ∷ 2 ∷ 3 ∷ 4 ∷ 5 ∷ 6 ∷ 0 ∷ 2 ∷ 0 ∷ 2 ∷ 1 ∷ 2 ∷ 2 ∷ 2 ∷ 4 ∷ 1 ∷ 4 ∷ 0 ∷ [])
     -- 1 and 2 come before 22.
-    ∷ (0 ∷ 2 ∷ 1 ∷ 0 ∷ 0 ∷ 0 ∷ 0 ∷ 0 ∷ 0 ∷ 0 ∷ 0 ∷ 0 ∷ 0 ∷ 0 ∷ 0 ∷ [])
+    ∷ (0 ∷ 2 ∷ 1 ∷ 1 ∷ 2 ∷ 3 ∷ 4 ∷ 5 ∷ 6 ∷ 0 ∷ 2 ∷ 0 ∷ 2 ∷ 2 ∷ 2 ∷ 2 ∷ 2 ∷ 4 ∷ 1 ∷ 4 ∷ 0 ∷ [])
     -- The word behind a block is cut by the edit: that block is read again, first 1, read 2.
     ∷ (1 ∷ 1 ∷ 2 ∷ 4 ∷ 104 ∷ 123 ∷ 97 ∷ 46 ∷ 98 ∷ 120 ∷ 46 ∷ 0 ∷ 0 ∷ 0 ∷ 2 ∷ 0 ∷ 2 ∷ 2 ∷ 2 ∷ 2 ∷ 2 ∷ 4 ∷ 3 ∷ 4 ∷ 3 ∷ 7 ∷ 1 ∷ 7 ∷ 0 ∷ [])
     -- No room for the fourth entry, behind a head kept in front: 21.
-    ∷ (0 ∷ 21 ∷ 8 ∷ 0 ∷ 0 ∷ 0 ∷ 0 ∷ 0 ∷ 0 ∷ 0 ∷ 0 ∷ 0 ∷ 0 ∷ 0 ∷ 0 ∷ 0 ∷ 0 ∷ 0 ∷ [])
+    ∷ (0 ∷ 21 ∷ 8 ∷ 104 ∷ 123 ∷ 120 ∷ 97 ∷ 46 ∷ 0 ∷ 0 ∷ 0 ∷ 0 ∷ 0 ∷ 2 ∷ 0 ∷ 2 ∷ 2 ∷ 3 ∷ 2 ∷ 3 ∷ 5 ∷ 1 ∷ 5 ∷ 0 ∷ [])
     -- The word behind a block is `addrspace`: that block is read again.
     ∷ (1 ∷ 1 ∷ 2 ∷ 4 ∷ 104 ∷ 123 ∷ 97 ∷ 46 ∷ 97 ∷ 100 ∷ 100 ∷ 114 ∷ 115 ∷ 112 ∷ 97 ∷ 99 ∷ 101 ∷ 32 ∷ 98 ∷ 46 ∷ 0 ∷ 0 ∷ 0 ∷ 0 ∷ 0 ∷ 0 ∷ 0 ∷ 0 ∷ 0 ∷ 0 ∷ 0 ∷ 0 ∷ 0 ∷ 0 ∷ 0 ∷ 2 ∷ 0 ∷ 2 ∷ 2 ∷ 2 ∷ 2 ∷ 2 ∷ 4 ∷ 12 ∷ 4 ∷ 12 ∷ 16 ∷ 1 ∷ 16 ∷ 0 ∷ [])
+    -- The older text is refused: a full reading leaves zeros.
+    ∷ (9 ∷ 0 ∷ 3 ∷ 5 ∷ 0 ∷ 0 ∷ 0 ∷ 0 ∷ 0 ∷ 0 ∷ 0 ∷ 0 ∷ 0 ∷ 0 ∷ 0 ∷ 0 ∷ 0 ∷ 0 ∷ 0 ∷ 0 ∷ 0 ∷ [])
     ∷ []
 
 pub edit-outcomes : map outcome edits ≡ outcomes

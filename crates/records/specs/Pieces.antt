@@ -75,7 +75,7 @@ countRun done = 0
 countRun (stop q p) = 0
 countRun (item e a r) = suc (countRun r)
 
--- What a call leaves: both arrays whole, and the answer. A refusal leaves zeros.
+-- What a call leaves: both arrays whole, and the answer. A refused full reading leaves zeros.
 pub data Answer : Type 0 where
   refusedAt : ℕ → ℕ → Answer  -- number, place
   count : ℕ → Answer  -- entry count
@@ -205,9 +205,10 @@ pub data Again : Type 0 where
 unfoldable pub leftOf : Again → Left
 leftOf (again-left l a b) = l
 
-unfoldable pub leaveAgain : (words : List ℕ) (dir : ℕ) → Verdict → ℕ → Run Source → Run Source → Again
-leaveAgain words dir fine k r all = again-left (leave (length words) dir fine (mapRun (sourceWords words) all)) k (sumRun (mapRun isFresh r))
-leaveAgain words dir (refused q p) k r all = again-left (leave (length words) dir (refused q p) (mapRun (sourceWords words) all)) 0 0
+-- "A refused edit, 22 included, now leaves words and directory unchanged" (02: M-113).
+unfoldable pub leaveAgain : (words dir : List ℕ) → Verdict → ℕ → Run Source → Run Source → Again
+leaveAgain words dir fine k r all = again-left (leave (length words) (length dir) fine (mapRun (sourceWords words) all)) k (sumRun (mapRun isFresh r))
+leaveAgain words dir (refused q p) k r all = again-left (left (refusedAt q p) words dir) 0 0
 
 module _ (headAt : List ℕ → HeadRead) (blockAt : List ℕ → BlockRead) where
   -- A full reading.
@@ -268,9 +269,9 @@ module _ (headAt : List ℕ → HeadRead) (blockAt : List ℕ → BlockRead) whe
       judge words dir (keeps older newer os) (oldSizes (take (keeps older newer os) os)) (oldWords (take (keeps older newer os) os)) (mapRun size (rest older newer os))
 
   unfoldable pub rereadOf : (words dir : List ℕ) (older newer : List ℕ) → Option (List Old) → Again
-  rereadOf words dir older newer none = leaveAgain words (length dir) (andThen (textAsked newer) (refused qOlder 0)) 0 done done
+  rereadOf words dir older newer none = leaveAgain words dir (andThen (textAsked newer) (refused qOlder 0)) 0 done done
   rereadOf words dir older newer (some os) =
-      leaveAgain words (length dir) (andThen (textAsked newer) (judgeAgain (length words) (length dir) older newer os))
+      leaveAgain words dir (andThen (textAsked newer) (judgeAgain (length words) (length dir) older newer os))
       (keeps older newer os) (rest older newer os) (before (take (keeps older newer os) os) (rest older newer os))
 
   unfoldable pub reread : (words dir : List ℕ) (n : ℕ) (older newer : List ℕ) → Again

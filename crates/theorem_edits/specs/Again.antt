@@ -1,18 +1,19 @@
--- Demand 3 on these definitions: a block takes at least a byte, so re-reading leaves what a full reading of the newer text leaves.
+-- Demand 3 on these definitions: a block takes at least a byte, so re-reading leaves what a full reading of the newer text leaves, or refuses as it does.
 -- Assumes nothing.
 use mathlib.Core.Path.{_≡_, refl, sym, _∙_, subst}
 use mathlib.Core.Bool.{Bool, true, false, _&&_, not}
+use mathlib.Core.Option.{some}
 use mathlib.Core.List.{List, [], _∷_}
 use Prim.Native.Nat.{ℕ, zero, suc, _+_, _-_, _≤_}
 use native.Mathlib.Omega.{arith}
 use lib.Dec.{eqb}
-use lib.ListN.{take, drop}
+use lib.ListN.{length, take, drop}
 use Rattle.program.specs.Class.{isWord}
 use Rattle.program.specs.Prog.{Prog, ret, eat, scan, last, Res, ok, closed, no-at, run, _>>=_, byteAt, scanLen}
 use Rattle.program.specs.Local.{next, run-bind, mono}
-use Rattle.records.specs.Pieces.{leftOf, left, count}
+use Rattle.records.specs.Pieces.{Old, olds, leftOf, left, count}
 use Rattle.theorem_edits.specs.Law.{Grammar}
-use Rattle.theorem_edits.specs.Same.{same}
+use Rattle.theorem_edits.specs.Same.{orAsLent, same, chained}
 use Rattle.theorem_edits.specs.Programs.{grammar}
 use Rattle.grammar.specs.Lexer.{eatWs, refuse, place, nameStep, quoteStep, quoteEnd, spaceStep, isByte, byteIf, Word, plain, quoted, isEmpty, isEmptyWord, readWord}
 use Rattle.grammar.specs.Body.{Statement, statementOf, wordStatement, parseInst, parseStatement, parseBody, parseBlock, parseHead}
@@ -118,8 +119,14 @@ pub laws : Grammar headAt blockAt
 unfolding headAt blockAt
 laws = grammar parseHead parseBlock block-moves
 
--- Demand 3: on the records of an accepted full reading of the older text, re-reading leaves what a full reading of the newer text leaves.
+-- Demand 3: on the records of an accepted full reading of the older text, re-reading leaves what a full reading of the newer text leaves, every word of
+-- both arrays and the entry count; where that refuses, it refuses with the same number at the same place, and the arrays are as they were lent.
 pub again-same : (W D n : ℕ) (ws ds older newer : List ℕ) → readingOf W D older ≡ left (count n) ws ds
-    → leftOf (rereadingOf ws ds n older newer) ≡ readingOf W D newer
+    → leftOf (rereadingOf ws ds n older newer) ≡ orAsLent ws ds (readingOf W D newer)
 unfolding headAt blockAt readingOf rereadingOf
 again-same = same headAt blockAt laws
+
+-- What an accepted full reading leaves is a directory that question 22 says yes to.
+pub reading-chained : (W D n : ℕ) (ws ds text : List ℕ) → readingOf W D text ≡ left (count n) ws ds → (os : List Old) × (olds (length text) (length ws) n ds ≡ some os)
+unfolding headAt blockAt readingOf
+reading-chained = chained headAt blockAt laws

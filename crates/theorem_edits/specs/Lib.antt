@@ -1,3 +1,4 @@
+pub mod Chain
 pub mod Law
 pub mod Same
 pub mod Programs
@@ -5,3 +6,5 @@ pub mod Older
 pub mod Again
 pub mod Behind
 pub mod Room
+pub mod Afternoon
+pub mod Order

@@ -21,17 +21,17 @@ count-map f done = refl
 count-map f (stop q p) = refl
 count-map f (item e a r) = ap suc (count-map f r)
 
-same-report : (ws vs : List ℕ) (d k : ℕ) (v : Verdict) (r all : Run Source) → reportOf (leaveAgain ws d v k r all) ≡ reportOf (leaveAgain vs d v k r all)
+same-report : (ws vs dir : List ℕ) (k : ℕ) (v : Verdict) (r all : Run Source) → reportOf (leaveAgain ws dir v k r all) ≡ reportOf (leaveAgain vs dir v k r all)
 unfolding reportOf leaveAgain leave
-same-report ws vs d k fine r all = rw (count-map (sourceWords ws) all, count-map (sourceWords vs) all)
-same-report ws vs d k (refused q p) r all = refl
+same-report ws vs dir k fine r all = rw (count-map (sourceWords ws) all, count-map (sourceWords vs) all)
+same-report ws vs dir k (refused q p) r all = refl
 
 module _ (headAt : List ℕ → HeadRead) (blockAt : List ℕ → BlockRead) where
   same-olds : (ws vs dir older newer : List ℕ) → length ws ≡ length vs → (o : Option (List Old))
       → reportOf (rereadOf headAt blockAt ws dir older newer o) ≡ reportOf (rereadOf headAt blockAt vs dir older newer o)
   unfolding rereadOf
-  same-olds ws vs dir older newer h none = same-report ws vs (length dir) 0 _ done done
-  same-olds ws vs dir older newer h (some os) = rw h (same-report ws vs (length dir) (keeps headAt blockAt older newer os) _ _ _)
+  same-olds ws vs dir older newer h none = same-report ws vs dir 0 _ done done
+  same-olds ws vs dir older newer h (some os) = rw h (same-report ws vs dir (keeps headAt blockAt older newer os) _ _ _)
 
   -- Two arrays of one length, whatever they hold, give one report.
   pub words-decide-nothing : (ws vs dir : List ℕ) (n : ℕ) (older newer : List ℕ) → length ws ≡ length vs

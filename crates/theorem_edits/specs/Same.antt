@@ -16,7 +16,8 @@ use borrow.Author.Tests.{ltb-true, leb-true, lt-ltb, le-leb, eq-eqb}
 use Rattle.records.specs.Limits.{halfLimit, textLimit}
 use Rattle.records.specs.Words.{pack}
 use Rattle.records.specs.Questions.{qLength}
-use Rattle.records.specs.Pieces.{HeadRead, head, badHead, BlockRead, block, tail, badBlock, Run, done, stop, item, mapRun, Old, old, Source, before, oldSizes, oldWords, keptRest, keptFront, common, keeps, rest, blocks, blocksIn, reading, Verdict, fine, refused, textAsked, judge, pad, allWords, entries, countRun, count, left, leave, andThen, consOld, chain, olds, size, sourceWords, closes, fullVerdict, full, judgeAgain, rereadOf, reread, leftOf, leaveAgain}
+use Rattle.records.specs.Pieces.{HeadRead, head, badHead, BlockRead, block, tail, badBlock, Run, done, stop, item, mapRun, Old, old, Source, before, oldSizes, oldWords, keptRest, keptFront, common, keeps, rest, blocks, blocksIn, reading, Verdict, fine, refused, textAsked, judge, pad, allWords, entries, countRun, refusedAt, count, Left, left, leave, andThen, consOld, chain, olds, size, sourceWords, closes, fullVerdict, full, judgeAgain, rereadOf, reread, leftOf, leaveAgain}
+use Rattle.theorem_edits.specs.Chain.{and-true}
 use Rattle.theorem_edits.specs.Law.{Grammar, IsReading, core, blocks-block, blocks-tail, blocks-bad}
 
 -- Questions 20 and 21 of one piece, passed.
@@ -28,10 +29,6 @@ record Fits (W D i at n : ℕ) : Type 0 where
 data JudgeStep (W D i pos at e n : ℕ) (r : Run ℕ) (v : Verdict) : Type 0 where
   passes : Fits W D i at n → v ≡ judge W D (suc i) (pos + e) (at + n) r → JudgeStep W D i pos at e n r v
   fails : (q p : ℕ) → v ≡ refused q p → JudgeStep W D i pos at e n r v
-
-and-true : (a b : Bool) → (a && b) ≡ true → (a ≡ true) × (b ≡ true)
-and-true true b h = (refl, h)
-and-true false b h = let z : _≡_ {A = ℕ} 0 1 = cc in absurd (omega arith)
 
 judgeStep : (W D i pos at e n : ℕ) (r : Run ℕ) → JudgeStep W D i pos at e n r (judge W D i pos at (item e n r))
 unfolding judge
@@ -218,8 +215,15 @@ unfolding leave
 leave-is W D n ws ds fine r h = record { ok = refl; number = cc; words = cc; dir = cc }
 leave-is W D n ws ds (refused q p) r h = let z : _≡_ {A = ℕ} 0 1 = cc in absurd (omega arith)
 
-leaveAgain-is : (words : List ℕ) (dir : ℕ) (v : Verdict) (k : ℕ) (r all : Run Source) → leftOf (leaveAgain words dir v k r all) ≡ leave (length words) dir v (mapRun (sourceWords words) all)
-unfolding leftOf leaveAgain
+-- What a re-reading leaves where a full reading of the newer text leaves l. "Alike in every word and the entry count where the newer text is accepted,
+-- and in the refusal and its place where it is not" (02: M-113): then the arrays are as they were lent.
+unfoldable pub orAsLent : (words dir : List ℕ) → Left → Left
+orAsLent words dir (left (count n) ws ds) = left (count n) ws ds
+orAsLent words dir (left (refusedAt q p) ws ds) = left (refusedAt q p) words dir
+
+leaveAgain-is : (words dir : List ℕ) (v : Verdict) (k : ℕ) (r all : Run Source)
+    → leftOf (leaveAgain words dir v k r all) ≡ orAsLent words dir (leave (length words) (length dir) v (mapRun (sourceWords words) all))
+unfolding leftOf leaveAgain leave orAsLent
 leaveAgain-is words dir fine k r all = refl
 leaveAgain-is words dir (refused q p) k r all = refl
 
@@ -266,7 +270,7 @@ module _ (headAt : List ℕ → HeadRead) (blockAt : List ℕ → BlockRead) (G 
       → mapRun (sourceWords ws) (before os done) ≡ mapRun (λ x. x) (reading headAt blockAt older)
       → mapRun size (before os done) ≡ mapRun length (reading headAt blockAt older)
       → judge (length ws) (length ds) 0 0 0 (mapRun size (before os done)) ≡ fine
-      → leftOf (rereadOf headAt blockAt ws ds older newer (some os)) ≡ full headAt blockAt (length ws) (length ds) newer
+      → leftOf (rereadOf headAt blockAt ws ds older newer (some os)) ≡ orAsLent ws ds (full headAt blockAt (length ws) (length ds) newer)
   unfolding full fullVerdict rereadOf judgeAgain keeps IsReading sourceWords size
   same-olds ws ds older newer os i j v =
       let k : ℕ = keptFront (common older newer) os in
@@ -281,35 +285,54 @@ module _ (headAt : List ℕ → HeadRead) (blockAt : List ℕ → BlockRead) (G 
       = judge-front W D 0 0 0 k os T (keptFront-le (common older newer) os) v in
       let f2 : judge W D 0 0 0 (mapRun length N) ≡ judge W D k (oldSizes (take k os)) (oldWords (take k os)) (mapRun size T)
       = rw (counts, zero-add k, zero-add (oldSizes (take k os)), zero-add (oldWords (take k os))) at f in
-      leaveAgain-is ws D (andThen (textAsked newer) (judge W D k (oldSizes (take k os)) (oldWords (take k os)) (mapRun size T))) k T (before (take k os) T)
+      leaveAgain-is ws ds (andThen (textAsked newer) (judge W D k (oldSizes (take k os)) (oldWords (take k os)) (mapRun size T))) k T (before (take k os) T)
       ∙ rw (← f2, words)
+
+  -- Question 22 says yes to the directory of an accepted reading, and takes it apart into the reading's pieces.
+  olds-found : (W D n : ℕ) (ws ds older : List ℕ) → textAsked older ≡ fine → judge W D 0 0 0 (mapRun length (reading headAt blockAt older)) ≡ fine
+      → n ≡ countRun (reading headAt blockAt older) → length ws ≡ W → ds ≡ pad D (entries 0 0 (reading headAt blockAt older))
+      → olds (length older) (length ws) n ds ≡ some (oldsOf 0 (reading headAt blockAt older))
+  unfolding olds pad
+  olds-found W D n ws ds older a b en lw ed =
+      let R : Run (List ℕ) = reading headAt blockAt older in
+      let two : leb 2 n ≡ true = le-leb 2 n (omega (arith, two-pieces W D older b)) in
+      let ch : chain (length older) (length ws) n 0 0 ds ≡ some (oldsOf 0 R) =
+      rw (lw, en, ed) (chain-entries (length older) W D 0 0 0 (replicate (D - length (entries 0 0 R)) 0) R (text-small older a) (omega (arith, sizes-reading older)) b) in
+      rw (two, olds) ch
 
   same-reading : (W D n : ℕ) (ws ds older newer : List ℕ) → textAsked older ≡ fine → judge W D 0 0 0 (mapRun length (reading headAt blockAt older)) ≡ fine
       → n ≡ countRun (reading headAt blockAt older) → ws ≡ pad W (allWords (reading headAt blockAt older)) → ds ≡ pad D (entries 0 0 (reading headAt blockAt older))
-      → leftOf (reread headAt blockAt ws ds n older newer) ≡ full headAt blockAt W D newer
-  unfolding reread olds IsReading pad
+      → leftOf (reread headAt blockAt ws ds n older newer) ≡ orAsLent ws ds (full headAt blockAt W D newer)
+  unfolding reread IsReading pad
   same-reading W D n ws ds older newer a b en ew ed =
       let R : Run (List ℕ) = reading headAt blockAt older in
       let lw : length ws ≡ W = ap length ew ∙ length-pad W (allWords R) (omega (arith, words-fit W D 0 0 0 R (omega arith) b)) in
       let ld : length ds ≡ D = ap length ed ∙ length-pad D (entries 0 0 R) (omega (arith, entries-fit W D 0 0 0 R (omega arith) b)) in
       let os : List Old = oldsOf 0 R in
-      let two : leb 2 n ≡ true = le-leb 2 n (omega (arith, two-pieces W D older b)) in
-      let ch : chain (length older) (length ws) n 0 0 ds ≡ some os =
-      rw (lw, en, ed) (chain-entries (length older) W D 0 0 0 (replicate (D - length (entries 0 0 R)) 0) R (text-small older a) (omega (arith, sizes-reading older)) b) in
-      let found : olds (length older) (length ws) n ds ≡ some os = rw (two, olds) ch in
+      let found : olds (length older) (length ws) n ds ≡ some os = olds-found W D n ws ds older a b en lw ed in
       let i : mapRun (sourceWords ws) (before os done) ≡ mapRun (λ x. x) R = rw ew (oldsOf-words W D 0 0 0 [] (replicate (W - length (allWords R)) 0) R b refl) in
       let j : mapRun size (before os done) ≡ mapRun length R = oldsOf-sizes W D 0 0 0 R b in
       let v : judge (length ws) (length ds) 0 0 0 (mapRun size (before os done)) ≡ fine = rw (lw, ld, j) b in
-      let all : leftOf (rereadOf headAt blockAt ws ds older newer (some os)) ≡ full headAt blockAt (length ws) (length ds) newer = same-olds ws ds older newer os i j v in
+      let all : leftOf (rereadOf headAt blockAt ws ds older newer (some os)) ≡ orAsLent ws ds (full headAt blockAt (length ws) (length ds) newer) = same-olds ws ds older newer os i j v in
       rw found (all ∙ rw (lw, ld))
 
-  -- On the records of an accepted full reading of the older text, re-reading leaves what a full reading of the newer text leaves: every word of
-  -- both arrays, and the entry count or the refusal and its place.
+  -- On the records of an accepted full reading of the older text, re-reading leaves what a full reading of the newer text leaves, every word of both
+  -- arrays and the entry count; or it refuses as that does, and leaves the arrays as they were lent.
   pub same : (W D n : ℕ) (ws ds older newer : List ℕ) → full headAt blockAt W D older ≡ left (count n) ws ds
-      → leftOf (reread headAt blockAt ws ds n older newer) ≡ full headAt blockAt W D newer
+      → leftOf (reread headAt blockAt ws ds n older newer) ≡ orAsLent ws ds (full headAt blockAt W D newer)
   unfolding full fullVerdict reread rereadOf olds
   same W D n ws ds older newer h =
       let R : Run (List ℕ) = reading headAt blockAt older in
       let L : IsLeft W D n ws ds (fullVerdict headAt blockAt W D older) R = leave-is W D n ws ds (fullVerdict headAt blockAt W D older) R h in
       let A : (textAsked older ≡ fine) × (judge W D 0 0 0 (mapRun length R) ≡ fine) = and-then-fine (textAsked older) (judge W D 0 0 0 (mapRun length R)) (L .ok) in
       same-reading W D n ws ds older newer (A .0) (A .1) (L .number) (L .words) (L .dir)
+
+  -- Question 22 says yes to what an accepted full reading leaves.
+  pub chained : (W D n : ℕ) (ws ds text : List ℕ) → full headAt blockAt W D text ≡ left (count n) ws ds → (os : List Old) × (olds (length text) (length ws) n ds ≡ some os)
+  unfolding full fullVerdict
+  chained W D n ws ds text h =
+      let R : Run (List ℕ) = reading headAt blockAt text in
+      let L : IsLeft W D n ws ds (fullVerdict headAt blockAt W D text) R = leave-is W D n ws ds (fullVerdict headAt blockAt W D text) R h in
+      let A : (textAsked text ≡ fine) × (judge W D 0 0 0 (mapRun length R) ≡ fine) = and-then-fine (textAsked text) (judge W D 0 0 0 (mapRun length R)) (L .ok) in
+      let lw : length ws ≡ W = ap length (L .words) ∙ length-pad W (allWords R) (omega (arith, words-fit W D 0 0 0 R (omega arith) (A .1))) in
+      (oldsOf 0 R, olds-found W D n ws ds text (A .0) (A .1) (L .number) lw (L .dir))

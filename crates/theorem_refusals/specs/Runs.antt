@@ -95,7 +95,7 @@ unfolding leave
 leave-in words dir n fine r h = tt
 leave-in words dir n (refused q p) r h = h
 
-leave-again-in : (words : List ℕ) (dir n : ℕ) (v : Verdict) (k : ℕ) (r all : Run Source) → VerdictIn n v → LeftIn n (leftOf (leaveAgain words dir v k r all))
+leave-again-in : (words dir : List ℕ) (n : ℕ) (v : Verdict) (k : ℕ) (r all : Run Source) → VerdictIn n v → LeftIn n (leftOf (leaveAgain words dir v k r all))
 unfolding leaveAgain leftOf leave
 leave-again-in words dir n fine k r all h = tt
 leave-again-in words dir n (refused q p) k r all h = h
@@ -286,9 +286,9 @@ module _ (headAt : List ℕ → HeadRead) (blockAt : List ℕ → BlockRead) (he
   reread-of-in : (words dir older newer : List ℕ) (o : Option (List Old)) → ((os : List Old) → o ≡ some os → oldSizes os ≤ length older) → LeftIn (length newer) (leftOf (rereadOf headAt blockAt words dir older newer o))
   unfolding rereadOf
   reread-of-in words dir older newer none h =
-      leave-again-in words (length dir) (length newer) _ 0 done done (and-in (length newer) (textAsked newer) (refused qOlder 0) (text-in newer) ((omega arith, omega arith), omega arith))
+      leave-again-in words dir (length newer) _ 0 done done (and-in (length newer) (textAsked newer) (refused qOlder 0) (text-in newer) ((omega arith, omega arith), omega arith))
   reread-of-in words dir older newer (some os) h =
-      leave-again-in words (length dir) (length newer) _ _ _ _
+      leave-again-in words dir (length newer) _ _ _ _
       (and-in (length newer) (textAsked newer) _ (text-in newer) (judge-again-in (length words) (length dir) older newer os (h os refl)))
 
   pub reread-in : (words dir : List ℕ) (n : ℕ) (older newer : List ℕ) → LeftIn (length newer) (leftOf (reread headAt blockAt words dir n older newer))

@@ -7,7 +7,7 @@ ghost use Rattle.grammar.specs.Function.{readingOf, rereadingOf};
 ghost use Rattle.lines.specs.Place.{positionOf};
 ghost use Rattle.zimlokur.specs.Report.{Reports, ReportsAgain};
 
-// The full reading. Returns 0, or the number of the question that refuses.
+// The full reading. Returns 0, or the number of the question that refuses; then both arrays are zero.
 #[no_mangle]
 pub extern "C" fn zimlokur_parse_define(
     text: &[u8],
@@ -32,7 +32,7 @@ pub extern "C" fn zimlokur_parse_define(
     }
 }
 
-// The re-reading after an edit. Returns 0, or the number of the question that refuses.
+// The re-reading after an edit. Returns 0, or the number of the question that refuses; then both arrays are as they were lent.
 #[no_mangle]
 pub extern "C" fn zimlokur_reparse_define(
     older: &[u8],

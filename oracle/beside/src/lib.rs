@@ -1,6 +1,7 @@
 //! A reader held against the Rust (tree or refusal and place), against the model (every word of
 //! both arrays), and by itself (structure, zeros behind, nothing written outside what was lent).
 
+pub mod afternoon;
 pub mod big;
 pub mod check;
 pub mod lent;

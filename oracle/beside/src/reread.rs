@@ -3,6 +3,7 @@
 use crate::check::{parse, same_array};
 use crate::lent::Lent;
 use crate::port::{Model, Port};
+use judge::domain::LENGTH;
 pub use model::calls::{alter, call, edit, fixed, Call};
 
 /// Every edit of one byte: deleted, each other byte in its place, each byte before it, each behind the text.
@@ -14,7 +15,17 @@ pub fn one_byte_edits(older: &[u8]) -> impl Iterator<Item = Vec<u8>> + '_ {
     deleted.chain(replaced).chain(inserted)
 }
 
-/// On records as a full reading left them: a re-reading leaves what the reader's own full reading of the newer text leaves.
+/// Question 1: a newer text of the most bytes that are read, and of one more.
+pub fn longest() -> Vec<Call> {
+    let older = b"void @f(){ret void}";
+    let padded = |length: usize| [&older[..], &vec![b' '; length - older.len()]].concat();
+    [LENGTH, LENGTH + 1]
+        .map(|length| call(older, padded(length), (9, 4)).expect("a text that is read"))
+        .to_vec()
+}
+
+/// On records as a full reading left them: a re-reading leaves what the reader's own full reading of the newer text leaves; where that
+/// refuses, it refuses alike and leaves the arrays as they were lent (M-113).
 pub fn as_full(port: &dyn Port, call: &Call) -> Result<(), String> {
     let (mut words, mut directory) = (Lent::holding(&call.words), Lent::holding(&call.directory));
     let again =
@@ -24,8 +35,13 @@ pub fn as_full(port: &dyn Port, call: &Call) -> Result<(), String> {
     if (again.number, again.place, again.entries) != (expected.number, expected.place, expected.entries) {
         return Err(format!("re-reading answered {again:?}, the full reading {expected:?}"));
     }
-    same_array("word", words.words(), full.words.words())?;
-    same_array("directory word", directory.words(), full.directory.words())
+    let refused = expected.number != 0;
+    same_array("word", words.words(), if refused { &call.words } else { full.words.words() })?;
+    same_array(
+        "directory word",
+        directory.words(),
+        if refused { &call.directory } else { full.directory.words() },
+    )
 }
 
 /// One call beside the model: answer, reports and every word. Gives the number.

@@ -1,7 +1,7 @@
 //! The comparison on wrong readers: each must be caught.
 
 use beside::port::{Model, Parsed, Port, Reparsed};
-use beside::{check, reread, rooms};
+use beside::{afternoon, check, reread, rooms};
 use judge::answer::on_big_stack;
 use judge::left_out;
 use texts::rng::Rng;
@@ -25,6 +25,8 @@ enum Wrong {
     RereadsAll,
     MadeUpRun,
     KeepsEqualEnd,
+    ZerosOnRefusedEdit,
+    WordChangedOnRefusedEdit,
 }
 
 use Wrong::*;
@@ -110,6 +112,16 @@ impl Port for Wrong {
                 answer.first += 1;
                 answer.read = 0;
             }
+            ZerosOnRefusedEdit if answer.number != 0 => {
+                words.fill(0);
+                directory.fill(0);
+            }
+            // A late question refuses, and the word behind the used ones was written before.
+            WordChangedOnRefusedEdit if matches!(answer.number, 20 | 21) => {
+                if let Some(last) = words.last_mut() {
+                    *last ^= 1;
+                }
+            }
             _ => {}
         }
         answer
@@ -133,7 +145,7 @@ fn wrong_readers_are_caught() {
         let all = [
             LaterBlank, EarlyTwenty, SingleTree, RefusesAll, Untouched, NoZerosBehind, NoZerosOnRefusal,
             PlaceOff, EntriesOnRefusal, WritesOutside, Column, HandsBack, RereadsAll, MadeUpRun,
-            KeepsEqualEnd,
+            KeepsEqualEnd, ZerosOnRefusedEdit, WordChangedOnRefusedEdit,
         ];
         for wrong in all {
             assert!(caught(wrong), "{wrong:?}");
@@ -150,6 +162,45 @@ fn left_out_texts_are_judged() {
     assert!(check::full(&RefusesAll, text).is_err());
     let call = reread::call(text, newer.to_vec(), (0, 0)).expect("a text that is read");
     assert!(reread::check(&HandsBack, &call).is_err());
+}
+
+/// An afternoon alone shows what a refused edit must leave as it was.
+#[test]
+fn wrong_afternoons_are_caught() {
+    let ends_wrong = |port: Wrong| {
+        let mut texts = Texts::new(13);
+        let mut rng = Rng::new(14);
+        (0..1000).any(|_| {
+            let (_, text) = texts.draw();
+            afternoon::check(&port, &mut rng, &text, true).is_some_and(|ended| ended.is_err())
+        })
+    };
+    on_big_stack(move || {
+        for wrong in [HandsBack, ZerosOnRefusedEdit, WordChangedOnRefusedEdit] {
+            assert!(ends_wrong(wrong), "{wrong:?}");
+        }
+        assert!(!ends_wrong(PlaceOff), "its re-readings are right");
+    });
+}
+
+/// Two edits in two blocks, of which either order must end in the same records.
+#[test]
+fn either_order_is_looked_at() {
+    on_big_stack(|| {
+        let mut texts = Texts::new(15);
+        let mut rng = Rng::new(16);
+        let (mut all, mut accepted, mut caught) = (0, 0, 0);
+        for _ in 0..10_000 {
+            let (_, text) = texts.draw();
+            let mut again = rng.clone();
+            let Some(made) = afternoon::either_order(&Model, &mut rng, &text) else { continue };
+            all += 1;
+            accepted += u64::from(made.expect("the model is right"));
+            let handed_back = afternoon::either_order(&HandsBack, &mut again, &text);
+            caught += u64::from(handed_back.is_some_and(|made| made.is_err()));
+        }
+        assert!(all > 300 && accepted > 100 && caught > 300, "{accepted} of {all} accepted, {caught} caught");
+    });
 }
 
 #[test]

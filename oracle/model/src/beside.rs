@@ -34,21 +34,26 @@ fn full(text: &[u8], words: usize, directory: usize) -> (Result<usize, Refusal>,
     (result, w, d)
 }
 
-/// On records as a full reading left them, re-reading must equal the full reading of the newer
-/// text, in every word and in the refusal. Arrays have `spare` words more than the older text
-/// needs. Gives the report of an accepted edit, or nothing if older or newer text is refused.
+/// On records as a full reading left them, re-reading must equal the full reading of the newer text:
+/// in every word and the entry count, or in the refusal and its place; then the arrays stay as they were
+/// (M-113). They have `spare` words more than the older text needs. Gives the report of an accepted edit,
+/// or nothing if older or newer text is refused.
 pub fn edit(older: &[u8], newer: &[u8], spare: (usize, usize)) -> Result<Option<Reread>, String> {
     let Ok(r) = records(older) else { return Ok(None) };
     let (words, directory) = (r.words.len() + spare.0, r.directory.len() + spare.1);
-    let (entries, mut w, mut d) = full(older, words, directory);
+    let (entries, lent_w, lent_d) = full(older, words, directory);
     let entries = entries.expect("it fits") as u64;
+    let (mut w, mut d) = (lent_w.clone(), lent_d.clone());
     let result = reparse_define(older, newer, &mut w, &mut d, entries);
-    let (expected, expected_w, expected_d) = full(newer, words, directory);
+    let (expected, full_w, full_d) = full(newer, words, directory);
     if result.map(|r| r.entries) != expected {
         return Err(format!("re-reading answers {result:?}, reading {expected:?}"));
     }
-    if (w, d) != (expected_w, expected_d) {
+    if result.is_ok() && (&w, &d) != (&full_w, &full_d) {
         return Err("re-reading leaves other words than reading".to_string());
+    }
+    if result.is_err() && (w, d) != (lent_w, lent_d) {
+        return Err("a refused re-reading leaves other words than were lent".to_string());
     }
     Ok(result.ok())
 }

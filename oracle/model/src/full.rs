@@ -65,12 +65,11 @@ impl Records {
     }
 }
 
-/// Copies records into an array, zeros behind; none leaves zeros alone.
-pub fn fill(array: &mut [u64], records: Option<&[u64]>) {
-    array.fill(0);
-    if let Some(words) = records {
-        array[..words.len()].copy_from_slice(words);
-    }
+/// Copies records into an array, zeros behind.
+pub fn fill(array: &mut [u64], records: &[u64]) {
+    let (used, behind) = array.split_at_mut(records.len());
+    used.copy_from_slice(records);
+    behind.fill(0);
 }
 
 /// Everything up to the tail.
@@ -89,8 +88,10 @@ fn read_all(text: &[u8], words: usize, directory: usize) -> Read<Records> {
 /// The full reading of a text into lent arrays: the number of entries, or the refusal.
 pub fn parse_define(text: &[u8], words: &mut [u64], directory: &mut [u64]) -> Read<usize> {
     let result = read_all(text, words.len(), directory.len());
-    fill(words, result.as_ref().ok().map(|r| &r.words[..]));
-    fill(directory, result.as_ref().ok().map(|r| &r.directory[..]));
+    let none = Records::new(0, 0);
+    let left = result.as_ref().unwrap_or(&none);
+    fill(words, &left.words);
+    fill(directory, &left.directory);
     result.map(|r| r.entries())
 }
 

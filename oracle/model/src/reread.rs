@@ -1,4 +1,4 @@
-//! Re-reading after an edit, exactly by 01's rule.
+//! Re-reading after an edit, exactly by 01's rule, with what M-113 of 02 says of a refusal.
 
 use crate::body::Role;
 use crate::full::{fill, whole_text, Records};
@@ -122,7 +122,8 @@ fn joins<'a>(older: &[u8], newer: &[u8], entries: &'a [Entry], c: usize, at: usi
     Some(&entries[first..])
 }
 
-/// Re-reading in lent arrays that hold the older records.
+/// Re-reading in lent arrays that hold the older records. A refused one, whatever refuses it, leaves
+/// every word of both as it was lent (M-113).
 pub fn reparse_define(
     older: &[u8],
     newer: &[u8],
@@ -130,8 +131,8 @@ pub fn reparse_define(
     directory: &mut [u64],
     count: u64,
 ) -> Read<Reread> {
-    let result = reread(older, newer, words, directory, count);
-    fill(words, result.as_ref().ok().map(|(r, _)| &r.words[..]));
-    fill(directory, result.as_ref().ok().map(|(r, _)| &r.directory[..]));
-    result.map(|(_, report)| report)
+    let (records, report) = reread(older, newer, words, directory, count)?;
+    fill(words, &records.words);
+    fill(directory, &records.directory);
+    Ok(report)
 }

@@ -2,8 +2,10 @@
 //! ZIMLOKUR_LIB named at build time, `beside --model SEED COUNT` the model, to try the comparison.
 //! In place of SEED and COUNT: `--short` takes every short string behind the prefixes, `--bytes` every
 //! edit of one byte of some texts, `--edits SEED COUNT` so many edits, `--values SEED COUNT` so many
-//! types and values, `--numerals SEED COUNT` so many numerals around the limits.
+//! types and values, `--numerals SEED COUNT` so many numerals around the limits, `--afternoons SEED COUNT` so
+//! many sequences of edits in the same arrays, and as many with refused calls that were lent what is not theirs.
 
+use beside::afternoon::{self, Calls};
 use beside::port::{Model, Port};
 use beside::shrink::shrink;
 use beside::{big, check, long, reread, rooms};
@@ -25,6 +27,12 @@ struct Answers {
     left_out: u64,
 }
 
+fn by_number(answers: &BTreeMap<u64, u64>) -> String {
+    let accepted = answers.get(&0).unwrap_or(&0);
+    let refused: Vec<String> = answers.range(1..).map(|(n, k)| format!("{n}: {k}")).collect();
+    format!("{accepted} accepted; refused by number: {}", refused.join(", "))
+}
+
 impl Answers {
     fn count(&mut self, number: u64, text: &[u8]) {
         let left_out = left_out(text);
@@ -44,14 +52,9 @@ impl Answers {
     }
 
     fn show(&self, what: &str) -> String {
-        let accepted = self.by_number.get(&0).unwrap_or(&0);
-        let refused: Vec<String> = self.by_number.range(1..).map(|(n, k)| format!("{n}: {k}")).collect();
-        let (all, refused) = (self.all(), refused.join(", "));
+        let (all, numbers) = (self.all(), by_number(&self.by_number));
         let (read_on, left_out) = (self.read_on, self.left_out);
-        format!(
-            "{all} {what}, {accepted} accepted; refused by number: {refused}; bare dead_on_return in {read_on}, \
-             atomicrmw in {left_out}\n"
-        )
+        format!("{all} {what}, {numbers}; bare dead_on_return in {read_on}, atomicrmw in {left_out}\n")
     }
 }
 
@@ -87,6 +90,51 @@ impl Numerals {
     }
 }
 
+/// What became of sequences of edits.
+#[derive(Default)]
+struct Afternoons {
+    sequences: u64,
+    calls: Calls,
+    /// Sequences with calls that were lent another older text or count.
+    stray: u64,
+    stray_calls: Calls,
+    /// Pairs of edits in two different blocks, and those of which all four calls were accepted.
+    orders: u64,
+    accepted_orders: u64,
+}
+
+impl Afternoons {
+    fn count(&mut self, calls: Calls, stray: bool) {
+        let (sequences, sum) = if stray {
+            (&mut self.stray, &mut self.stray_calls)
+        } else {
+            (&mut self.sequences, &mut self.calls)
+        };
+        *sequences += 1;
+        sum.add(calls);
+    }
+
+    fn add(&mut self, other: Afternoons) {
+        self.sequences += other.sequences;
+        self.stray += other.stray;
+        self.calls.add(other.calls);
+        self.stray_calls.add(other.stray_calls);
+        self.orders += other.orders;
+        self.accepted_orders += other.accepted_orders;
+    }
+
+    fn show(&self) -> String {
+        let Afternoons { sequences, calls, stray, stray_calls, orders, accepted_orders } = self;
+        let (each, astray) = (afternoon::CALLS, stray_calls.astray);
+        let (calls, stray_calls) = (by_number(&calls.by_number), by_number(&stray_calls.by_number));
+        format!(
+            "{sequences} afternoons of {each} edits: {calls}\n\
+             {stray} more, with {astray} calls that were lent another older text or count: {stray_calls}\n\
+             {orders} pairs of edits in two blocks, in {accepted_orders} of which all four calls were accepted\n"
+        )
+    }
+}
+
 #[derive(Default)]
 struct Report {
     texts: Answers,
@@ -94,11 +142,11 @@ struct Report {
     edits: Answers,
     altered: Answers,
     numerals: Numerals,
+    afternoons: Afternoons,
     wrong: Vec<String>,
 }
 
-const USAGE: &str =
-    "usage: beside [--model] ([--edits | --values | --numerals] SEED COUNT | --short | --bytes)";
+const USAGE: &str = "usage: beside [--model] ([--edits | --values | --numerals | --afternoons] SEED COUNT | --short | --bytes)";
 
 /// So many differences are shown; more would be the same ones again.
 const SHOWN: usize = 20;
@@ -108,6 +156,9 @@ const SPARES: [(usize, usize); 2] = [(0, 0), (9, 4)];
 
 /// One text in so many is read in every room.
 const ROOMS: u64 = 16;
+
+/// So many pairs of edits of a text with two blocks are made in either order.
+const ORDERS: u64 = 4;
 
 /// One numeral in so many is cut short at every place.
 const CUT_SHORT: u64 = 128;
@@ -210,12 +261,36 @@ impl Report {
         }
     }
 
+    /// Two afternoons of a text, the second with calls that are lent what is not theirs, and pairs of edits in either order.
+    fn afternoons(&mut self, port: &dyn Port, rng: &mut Rng, text: &[u8]) {
+        for stray in [false, true] {
+            match afternoon::check(port, rng, text, stray) {
+                None => return,
+                Some(Ok(calls)) => self.afternoons.count(calls, stray),
+                Some(Err(why)) => self.wrong(text, &why),
+            }
+        }
+        (0..ORDERS).for_each(|_| self.either_order(port, rng, text));
+    }
+
+    fn either_order(&mut self, port: &dyn Port, rng: &mut Rng, text: &[u8]) {
+        match afternoon::either_order(port, rng, text) {
+            None => {}
+            Some(Ok(accepted)) => {
+                self.afternoons.orders += 1;
+                self.afternoons.accepted_orders += u64::from(accepted);
+            }
+            Some(Err(why)) => self.wrong(text, &why),
+        }
+    }
+
     fn add(&mut self, other: Report) {
         self.texts.add(other.texts);
         self.rooms += other.rooms;
         self.edits.add(other.edits);
         self.altered.add(other.altered);
         self.numerals.add(other.numerals);
+        self.afternoons.add(other.afternoons);
         self.wrong.extend(other.wrong);
     }
 
@@ -231,6 +306,9 @@ impl Report {
         out.push_str(&self.altered.show("altered calls"));
         if self.numerals.drawn + self.numerals.long > 0 {
             out.push_str(&self.numerals.show());
+        }
+        if self.afternoons.sequences > 0 {
+            out.push_str(&self.afternoons.show());
         }
         out.push_str(&format!("{} differences\n", self.wrong.len()));
         out
@@ -260,6 +338,7 @@ fn fixed_calls(port: &dyn Port, report: &mut Report) {
         edits.iter().for_each(|call| report.edit(port, call));
         lent.iter().for_each(|call| report.altered(port, call));
     }
+    reread::longest().iter().for_each(|call| report.edit(port, call));
 }
 
 fn stream(port: &dyn Port, seed: u64, count: u64) -> Report {
@@ -290,6 +369,18 @@ fn edits(port: &dyn Port, seed: u64, count: u64) -> Report {
     while report.edits.all() < count && report.wrong.len() < SHOWN {
         let (_, text) = texts.draw();
         (0..8).for_each(|_| report.edits(port, &mut rng, &text));
+    }
+    report
+}
+
+/// So many afternoons, and as many with calls that are lent what is not theirs.
+fn afternoons(port: &dyn Port, seed: u64, count: u64) -> Report {
+    let mut report = Report::default();
+    let mut texts = Texts::new(seed);
+    let mut rng = Rng::new(seed ^ 0x5bd1_e995);
+    while report.afternoons.sequences < count && report.wrong.len() < SHOWN {
+        let (_, text) = texts.draw();
+        report.afternoons(port, &mut rng, &text);
     }
     report
 }
@@ -448,6 +539,7 @@ fn start(args: &[&str]) -> Result<bool, String> {
         ["--short"] => run(short_work(port)),
         ["--bytes"] => run(byte_work(port)),
         ["--edits", seed, count] => run(halves(edits, port, number(seed)?, number(count)?)),
+        ["--afternoons", seed, count] => run(halves(afternoons, port, number(seed)?, number(count)?)),
         ["--values", seed, count] => run(halves(values, port, number(seed)?, number(count)?)),
         ["--numerals", seed, count] => run(numeral_work(port, number(seed)?, number(count)?)),
         [seed, count] => run(stream_work(port, number(seed)?, number(count)?)),
