@@ -158,9 +158,11 @@ uint64_t zimlokur_parse_define(const uint8_t *text, size_t text_len, uint64_t *w
  *   none was), *read how many were; the arrays are as
  *   zimlokur_parse_define would have left them for the newer text, if they were as it left them for the older text, with
  *   older_entries the count that it gave.
- * Refused: *place is where, *entries, *first and *read are 0, and every word of both arrays is as it was lent: they still hold the records of
- *   the last accepted text, and the next edit is one of that, with the entry count that it had. So any number of calls, accepted and refused,
- *   ends with the records of the last accepted text, as zimlokur_parse_define would leave them.
+ * Refused: *place is where, *entries, *first and *read are 0, and every word of both arrays is as it was lent: the next edit is one of the last
+ *   accepted text again, with the entry count that it had.
+ * Any number of calls, accepted and refused, behind an accepted zimlokur_parse_define in the same arrays: if each accepted one was lent the last
+ *   accepted text and its entry count, the arrays are in the end as zimlokur_parse_define would leave them for the last accepted text. The
+ *   refused ones may have been lent any older text and count. An accepted call that was lent another text or count ends this.
  * Whatever older text, records and count are lent, answer, place and every word are those of the definition `rereadingOf` of both texts,
  * both arrays and the count as they stood before the call: there is one result.
  */

@@ -288,6 +288,11 @@ module _ (headAt : List ℕ → HeadRead) (blockAt : List ℕ → BlockRead) (G 
       leaveAgain-is ws ds (andThen (textAsked newer) (judge W D k (oldSizes (take k os)) (oldWords (take k os)) (mapRun size T))) k T (before (take k os) T)
       ∙ rw (← f2, words)
 
+  words-long : (W D : ℕ) (ws text : List ℕ) → judge W D 0 0 0 (mapRun length (reading headAt blockAt text)) ≡ fine → ws ≡ pad W (allWords (reading headAt blockAt text)) → length ws ≡ W
+  words-long W D ws text b ew =
+      let R : Run (List ℕ) = reading headAt blockAt text in
+      ap length ew ∙ length-pad W (allWords R) (omega (arith, words-fit W D 0 0 0 R (omega arith) b))
+
   -- Question 22 says yes to the directory of an accepted reading, and takes it apart into the reading's pieces.
   olds-found : (W D n : ℕ) (ws ds older : List ℕ) → textAsked older ≡ fine → judge W D 0 0 0 (mapRun length (reading headAt blockAt older)) ≡ fine
       → n ≡ countRun (reading headAt blockAt older) → length ws ≡ W → ds ≡ pad D (entries 0 0 (reading headAt blockAt older))
@@ -306,7 +311,7 @@ module _ (headAt : List ℕ → HeadRead) (blockAt : List ℕ → BlockRead) (G 
   unfolding reread IsReading pad
   same-reading W D n ws ds older newer a b en ew ed =
       let R : Run (List ℕ) = reading headAt blockAt older in
-      let lw : length ws ≡ W = ap length ew ∙ length-pad W (allWords R) (omega (arith, words-fit W D 0 0 0 R (omega arith) b)) in
+      let lw : length ws ≡ W = words-long W D ws older b ew in
       let ld : length ds ≡ D = ap length ed ∙ length-pad D (entries 0 0 R) (omega (arith, entries-fit W D 0 0 0 R (omega arith) b)) in
       let os : List Old = oldsOf 0 R in
       let found : olds (length older) (length ws) n ds ≡ some os = olds-found W D n ws ds older a b en lw ed in
@@ -316,23 +321,33 @@ module _ (headAt : List ℕ → HeadRead) (blockAt : List ℕ → BlockRead) (G 
       let all : leftOf (rereadOf headAt blockAt ws ds older newer (some os)) ≡ orAsLent ws ds (full headAt blockAt (length ws) (length ds) newer) = same-olds ws ds older newer os i j v in
       rw found (all ∙ rw (lw, ld))
 
+  -- An accepted full reading: both arrays are its run's, and no question refused.
+  record Accepts (W D n : ℕ) (ws ds text : List ℕ) : Type 0 where
+    asked : textAsked text ≡ fine
+    judged : judge W D 0 0 0 (mapRun length (reading headAt blockAt text)) ≡ fine
+    number : n ≡ countRun (reading headAt blockAt text)
+    words : ws ≡ pad W (allWords (reading headAt blockAt text))
+    dir : ds ≡ pad D (entries 0 0 (reading headAt blockAt text))
+
+  accepted : (W D n : ℕ) (ws ds text : List ℕ) → full headAt blockAt W D text ≡ left (count n) ws ds → Accepts W D n ws ds text
+  unfolding full fullVerdict
+  accepted W D n ws ds text h =
+      let R : Run (List ℕ) = reading headAt blockAt text in
+      let L : IsLeft W D n ws ds (fullVerdict headAt blockAt W D text) R = leave-is W D n ws ds (fullVerdict headAt blockAt W D text) R h in
+      let A : (textAsked text ≡ fine) × (judge W D 0 0 0 (mapRun length R) ≡ fine) = and-then-fine (textAsked text) (judge W D 0 0 0 (mapRun length R)) (L .ok) in
+      record { asked = A .0; judged = A .1; number = L .number; words = L .words; dir = L .dir }
+
   -- On the records of an accepted full reading of the older text, re-reading leaves what a full reading of the newer text leaves, every word of both
   -- arrays and the entry count; or it refuses as that does, and leaves the arrays as they were lent.
   pub same : (W D n : ℕ) (ws ds older newer : List ℕ) → full headAt blockAt W D older ≡ left (count n) ws ds
       → leftOf (reread headAt blockAt ws ds n older newer) ≡ orAsLent ws ds (full headAt blockAt W D newer)
-  unfolding full fullVerdict reread rereadOf olds
   same W D n ws ds older newer h =
-      let R : Run (List ℕ) = reading headAt blockAt older in
-      let L : IsLeft W D n ws ds (fullVerdict headAt blockAt W D older) R = leave-is W D n ws ds (fullVerdict headAt blockAt W D older) R h in
-      let A : (textAsked older ≡ fine) × (judge W D 0 0 0 (mapRun length R) ≡ fine) = and-then-fine (textAsked older) (judge W D 0 0 0 (mapRun length R)) (L .ok) in
-      same-reading W D n ws ds older newer (A .0) (A .1) (L .number) (L .words) (L .dir)
+      let A : Accepts W D n ws ds older = accepted W D n ws ds older h in
+      same-reading W D n ws ds older newer (A .asked) (A .judged) (A .number) (A .words) (A .dir)
 
   -- Question 22 says yes to what an accepted full reading leaves.
   pub chained : (W D n : ℕ) (ws ds text : List ℕ) → full headAt blockAt W D text ≡ left (count n) ws ds → (os : List Old) × (olds (length text) (length ws) n ds ≡ some os)
-  unfolding full fullVerdict
   chained W D n ws ds text h =
-      let R : Run (List ℕ) = reading headAt blockAt text in
-      let L : IsLeft W D n ws ds (fullVerdict headAt blockAt W D text) R = leave-is W D n ws ds (fullVerdict headAt blockAt W D text) R h in
-      let A : (textAsked text ≡ fine) × (judge W D 0 0 0 (mapRun length R) ≡ fine) = and-then-fine (textAsked text) (judge W D 0 0 0 (mapRun length R)) (L .ok) in
-      let lw : length ws ≡ W = ap length (L .words) ∙ length-pad W (allWords R) (omega (arith, words-fit W D 0 0 0 R (omega arith) (A .1))) in
-      (oldsOf 0 R, olds-found W D n ws ds text (A .0) (A .1) (L .number) lw (L .dir))
+      let A : Accepts W D n ws ds text = accepted W D n ws ds text h in
+      let lw : length ws ≡ W = words-long W D ws text (A .judged) (A .words) in
+      (oldsOf 0 (reading headAt blockAt text), olds-found W D n ws ds text (A .asked) (A .judged) (A .number) lw (A .dir))

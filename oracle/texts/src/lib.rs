@@ -90,6 +90,11 @@ impl Texts {
         (kind, self.of_kind(kind))
     }
 
+    /// A function as clang printed it.
+    pub fn real(&mut self) -> (Kind, Vec<u8>) {
+        (Kind::Clang, self.of_kind(Kind::Clang))
+    }
+
     fn kind(&mut self) -> Kind {
         let mut at = self.rng.below(100);
         for &(kind, share) in SHARES {

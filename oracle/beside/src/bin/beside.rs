@@ -15,7 +15,7 @@ use std::collections::BTreeMap;
 use std::process::ExitCode;
 use texts::numerals::{self, Placed};
 use texts::rng::Rng;
-use texts::{clang, cover, maker, mutate, short, Texts};
+use texts::{clang, cover, maker, mutate, short, Kind, Texts};
 
 /// How many calls were answered with each number; 0 is accepted.
 #[derive(Default)]
@@ -94,6 +94,8 @@ impl Numerals {
 #[derive(Default)]
 struct Afternoons {
     sequences: u64,
+    /// Of these, from functions of clang, as printed or damaged.
+    real: u64,
     calls: Calls,
     /// Sequences with calls that were lent another older text or count.
     stray: u64,
@@ -116,6 +118,7 @@ impl Afternoons {
 
     fn add(&mut self, other: Afternoons) {
         self.sequences += other.sequences;
+        self.real += other.real;
         self.stray += other.stray;
         self.calls.add(other.calls);
         self.stray_calls.add(other.stray_calls);
@@ -124,11 +127,11 @@ impl Afternoons {
     }
 
     fn show(&self) -> String {
-        let Afternoons { sequences, calls, stray, stray_calls, orders, accepted_orders } = self;
+        let Afternoons { sequences, real, calls, stray, stray_calls, orders, accepted_orders } = self;
         let (each, astray) = (afternoon::CALLS, stray_calls.astray);
         let (calls, stray_calls) = (by_number(&calls.by_number), by_number(&stray_calls.by_number));
         format!(
-            "{sequences} afternoons of {each} edits: {calls}\n\
+            "{sequences} afternoons of {each} edits, {real} from functions of clang: {calls}\n\
              {stray} more, with {astray} calls that were lent another older text or count: {stray_calls}\n\
              {orders} pairs of edits in two blocks, in {accepted_orders} of which all four calls were accepted\n"
         )
@@ -156,6 +159,9 @@ const SPARES: [(usize, usize); 2] = [(0, 0), (9, 4)];
 
 /// One text in so many is read in every room.
 const ROOMS: u64 = 16;
+
+/// One text in so many is a function as clang printed it, besides those of the stream.
+const REAL: u64 = 8;
 
 /// So many pairs of edits of a text with two blocks are made in either order.
 const ORDERS: u64 = 4;
@@ -378,9 +384,15 @@ fn afternoons(port: &dyn Port, seed: u64, count: u64) -> Report {
     let mut report = Report::default();
     let mut texts = Texts::new(seed);
     let mut rng = Rng::new(seed ^ 0x5bd1_e995);
+    let mut drawn: u64 = 0;
     while report.afternoons.sequences < count && report.wrong.len() < SHOWN {
-        let (_, text) = texts.draw();
+        let before = report.afternoons.sequences;
+        let (kind, text) = if drawn % REAL == 0 { texts.real() } else { texts.draw() };
         report.afternoons(port, &mut rng, &text);
+        if matches!(kind, Kind::Clang | Kind::ClangMutated) {
+            report.afternoons.real += report.afternoons.sequences - before;
+        }
+        drawn += 1;
     }
     report
 }
