@@ -93,7 +93,7 @@ static inline int refuses_room(struct text cue, struct room room, uint64_t quest
  * word less at the end of the tail. */
 static inline int check_rooms(struct text cue, const struct bench *bench, uint64_t entries) {
   struct piece tail = last_piece(bench->kept, entries);
-  size_t words = (size_t)words_of_all(bench->kept, entries), directory = (size_t)(2 * entries);
+  size_t words = (size_t)words_of_all(bench->kept, entries), directory = directory_words(entries);
   struct room exact = part_of(bench->fresh, words, directory);
   int taken = read_stained(cue, exact).question == 0 && untouched_behind(exact) && same_words(exact, bench->kept);
   int by_words = refuses_room(cue, part_of(bench->fresh, words - 1, directory), ZIMLOKUR_Q_WORDS, tail.start);
@@ -109,15 +109,16 @@ static inline int check_rooms(struct text cue, const struct bench *bench, uint64
   return fine;
 }
 
-/* Whether each piece begins in text and words where the last one ended, and ends inside both. */
+/* Whether each piece begins in text and words where the last one ended, and ends inside both. The counter begins with 0 and never falls. */
 static inline int is_chain(struct text cue, struct room kept, uint64_t entries) {
-  uint64_t start = 0, first_word = 0;
+  uint64_t start = 0, first_word = 0, counter = 0;
   for (uint64_t number = 0; number < entries; number++) {
     struct piece piece = piece_of(kept, number);
-    if (piece.start != start || piece.first_word != first_word)
+    if (piece.start != start || piece.first_word != first_word || piece.counter < counter || (number == 0 && piece.counter != 0))
       return 0;
     start += piece.length;
     first_word += piece.words;
+    counter = piece.counter;
     if (start > cue.length || first_word > kept.words_length)
       return 0;
   }
@@ -130,11 +131,11 @@ static inline int is_list(struct text cue, struct room kept, uint64_t entries) {
          cue_end(kept, entries) > 0;
 }
 
-/* The list, which has no gap, ends with a closing brace, and behind what it takes the arrays are zero. */
+/* The list, which has no gap and no counter that falls, ends with a closing brace, and behind what it takes the arrays are zero. */
 static inline int check_pieces(struct text cue, struct room kept, uint64_t entries) {
   size_t end = cue_end(kept, entries), words = (size_t)words_of_all(kept, entries);
   int fine = cue.bytes[end - 1] == '}' && zero_from(kept.words, words, kept.words_length) &&
-             zero_from(kept.directory, (size_t)(2 * entries), kept.directory_length) && untouched_behind(kept);
+             zero_from(kept.directory, directory_words(entries), kept.directory_length) && untouched_behind(kept);
   if (fine)
     printf("ok pieces: %" PRIu64 " from 0 to %zu without a gap, listed above\n", entries, end);
   else
@@ -196,7 +197,7 @@ static inline int check_digits(struct text cue, const struct bench *bench, uint6
 /* The same bench, its three rooms of one size, with no more lent than the cue needs and some to spare: what is not lent need not be
  * compared, edit for edit. */
 static inline struct bench bench_for(const struct bench *bench, uint64_t entries) {
-  size_t words = (size_t)words_of_all(bench->kept, entries) + SPARE, directory = (size_t)(2 * entries) + SPARE;
+  size_t words = (size_t)words_of_all(bench->kept, entries) + SPARE, directory = directory_words(entries) + SPARE;
   struct bench fit = {part_of(bench->kept, words, directory), part_of(bench->again, words, directory),
                       part_of(bench->fresh, words, directory), bench->edited};
   return fit;
@@ -204,7 +205,7 @@ static inline struct bench bench_for(const struct bench *bench, uint64_t entries
 
 /* Whether a room has what `bench_for` takes of it. */
 static inline int room_suffices(struct room room, struct room kept, uint64_t entries) {
-  return words_of_all(kept, entries) + SPARE <= room.words_length && 2 * entries + SPARE <= room.directory_length;
+  return words_of_all(kept, entries) + SPARE <= room.words_length && directory_words(entries) + SPARE <= room.directory_length;
 }
 
 static inline int bench_suffices(const struct bench *bench, uint64_t entries) {
@@ -226,7 +227,7 @@ static inline int check_each(struct text cue, const struct bench *bench, uint64_
 static inline int check_all(struct text cue, const struct bench *bench, uint64_t entries) {
   list_pieces(bench->kept, entries);
   if (!is_list(cue, bench->kept, entries)) {
-    printf("FAILED pieces: the list above has a gap or is not the text's; the other checks cannot be made\n");
+    printf("FAILED pieces: the list above has a gap or a counter that falls, or is not the text's; the other checks cannot be made\n");
     return 0;
   }
   if (!bench_suffices(bench, entries)) {

@@ -37,13 +37,13 @@ struct edit {
   uint64_t first, read;
 };
 
-/* An entry of the directory: where a piece stands in the text, and its records in the words. */
+/* An entry of the directory: where a piece stands in the text, its records in the words, and the counter at its start. */
 struct piece {
-  uint64_t start, length, first_word, words;
+  uint64_t start, length, first_word, words, counter;
 };
 
-/* What a text of that length may need. The densest texts that are known make 4 words of 3 bytes (parameters `i8,`) and 2 directory words of
- * 6 bytes (blocks `ret{}1`): this is more. */
+/* What a text of that length may need. The densest texts that are known make 4 words of 3 bytes (parameters `i8,`) and an entry of 6 bytes
+ * (blocks `ret{}1`): this is more. */
 static inline size_t enough_words(size_t bytes) { return 2 * bytes + 16; }
 static inline size_t enough_directory(size_t bytes) { return bytes + 16; }
 
@@ -69,23 +69,26 @@ static inline uint64_t lower(uint64_t word) { return word & UINT32_MAX; }
 
 /* How many entries there are to look at: a count is not believed beyond the array. */
 static inline uint64_t entries_within(struct room room, uint64_t entries) {
-  uint64_t most = room.directory_length / 2;
+  uint64_t most = room.directory_length / ZIMLOKUR_ENTRY_WORDS;
   return entries < most ? entries : most;
 }
 
 /* A piece whose number is below what `entries_within` gives. */
 static inline struct piece piece_of(struct room room, uint64_t number) {
-  uint64_t in_text = room.directory[2 * number], in_words = room.directory[2 * number + 1];
-  struct piece piece = {upper(in_text), lower(in_text), upper(in_words), lower(in_words)};
+  const uint64_t *entry = room.directory + ZIMLOKUR_ENTRY_WORDS * number;
+  struct piece piece = {upper(entry[0]), lower(entry[0]), upper(entry[1]), lower(entry[1]), entry[2]};
   return piece;
 }
 
 /* The last piece; one without bytes and words if there is none. */
 static inline struct piece last_piece(struct room room, uint64_t entries) {
-  struct piece none = {0, 0, 0, 0};
+  struct piece none = {0, 0, 0, 0, 0};
   uint64_t count = entries_within(room, entries);
   return count > 0 ? piece_of(room, count - 1) : none;
 }
+
+/* How many words of the directory so many entries take. */
+static inline size_t directory_words(uint64_t entries) { return (size_t)(ZIMLOKUR_ENTRY_WORDS * entries); }
 
 /* Where the words of the last piece end: each piece's begin where the last one's ended, so it is the number of all. */
 static inline uint64_t words_of_all(struct room room, uint64_t entries) {

@@ -1,6 +1,6 @@
 /* Holds the refusals that docs/QUESTIONS.md shows against the library. The file that is named, runs/questions.txt, tells its form.
  * Each text must be refused with that number at that place; a full reading must leave both arrays zero, a re-reading as they were lent. Each
- * number from 1 to 22 must be there.
+ * number from 1 to 22 must be there, and 26.
  * Exits 0 if so, 1 if a line differs, is in no form or a number is missing, 2 if there is no file to read.
  * cc -Iinclude examples/questions.c target/staticlib/libzimlokur.a -o target/questions */
 #include "zimlokur.h"
@@ -87,10 +87,15 @@ static unsigned long check(const char *line) {
   return number;
 }
 
+/* Between 22 and 26 there are none. */
+static int is_question(unsigned long number) {
+  return (number >= ZIMLOKUR_Q_LENGTH && number <= ZIMLOKUR_Q_OLDER) || number == ZIMLOKUR_Q_COUNTER;
+}
+
 int main(int count, char **names) {
   static char line[LINE_BYTES];
   unsigned long lines = 0, same = 0, missing = 0;
-  int seen[ZIMLOKUR_Q_OLDER + 1] = {0};
+  int seen[ZIMLOKUR_Q_COUNTER + 1] = {0};
   FILE *input = count == 2 ? fopen(names[1], "r") : NULL;
   if (input == NULL) {
     fprintf(stderr, "questions: name the file to check, as runs/questions.txt\n");
@@ -103,7 +108,7 @@ int main(int count, char **names) {
       continue;
     lines++;
     number = check(line);
-    if (number >= 1 && number <= ZIMLOKUR_Q_OLDER) {
+    if (is_question(number)) {
       seen[number] = 1;
       same++;
     } else {
@@ -111,8 +116,8 @@ int main(int count, char **names) {
     }
   }
   fclose(input);
-  for (int k = 1; k <= ZIMLOKUR_Q_OLDER; k++)
-    missing += !seen[k];
+  for (unsigned long k = 0; k <= ZIMLOKUR_Q_COUNTER; k++)
+    missing += is_question(k) && !seen[k];
   printf("questions: %lu lines, %lu as written, %lu numbers missing\n", lines, same, missing);
   return lines == same && missing == 0 ? 0 : 1;
 }

@@ -81,9 +81,9 @@ static void show_words(const uint64_t *array, uint64_t count, size_t length) {
 /* Where the words of the last piece end. The count is not believed: a wrong one shall show in what is printed, not end the program. */
 static uint64_t words_of_all(uint64_t entries) {
   uint64_t last;
-  if (entries == 0 || entries > DIRECTORY_WORDS / 2)
+  if (entries == 0 || entries > DIRECTORY_WORDS / ZIMLOKUR_ENTRY_WORDS)
     return 0;
-  last = directory[2 * entries - 1];
+  last = directory[ZIMLOKUR_ENTRY_WORDS * (entries - 1) + 1];
   return (last >> 32) + (last & UINT32_MAX);
 }
 
@@ -108,7 +108,7 @@ static int answer(const struct text *text) {
     printf(" R %" PRIu64 " %" PRIu64, question, place);
   } else {
     words_count = words_of_all(entries);
-    directory_count = 2 * entries;
+    directory_count = ZIMLOKUR_ENTRY_WORDS * entries;
     printf(" A %" PRIu64, entries);
     show_words(words, words_count, WORDS);
     show_words(directory, directory_count, DIRECTORY_WORDS);

@@ -28,8 +28,9 @@ static inline const char *sentence_of(uint64_t question) {
       [ZIMLOKUR_Q_WORDS] = "The records of the text up to here need more words than were lent.",
       [ZIMLOKUR_Q_ENTRIES] = "The text up to here has more pieces than the directory lent has room for.",
       [ZIMLOKUR_Q_OLDER] = "The older records are not such as a reading leaves: read the whole text anew.",
+      [ZIMLOKUR_Q_COUNTER] = "The number that belongs here is below the next free one or not below 2^32, or a label stands behind an instruction.",
   };
-  if (question == 0 || question >= sizeof sentences / sizeof *sentences)
+  if (question >= sizeof sentences / sizeof *sentences || !sentences[question])
     return "This number is no question's.";
   return sentences[question];
 }

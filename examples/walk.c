@@ -27,9 +27,10 @@ struct header {
   size_t children, size;
 };
 
-/* What is being printed: the text of the piece, which its names count from, and what did not fit so far. */
+/* What is being printed: the text of the piece, which its names count from, the counter at its start, and what did not fit so far. */
 struct walk {
   struct text piece;
+  uint64_t counter;
   size_t faults;
 };
 
@@ -342,11 +343,11 @@ static void show_payload(struct walk *walk, unsigned kind, struct span payload) 
     if (payload.words[0] != 0)
       show_name(walk, "%", payload.words[0]);
     break;
-  case ZIMLOKUR_K_BLOCK: /* zero: no label */
+  case ZIMLOKUR_K_BLOCK: /* zero: no label, and so its number is the counter where it begins */
     if (payload.words[0] != 0)
       show_name(walk, "", payload.words[0]);
     else
-      printf(" without label");
+      printf(" number %" PRIu64, walk->counter);
     break;
   default:
     show_instruction(walk, payload);
@@ -400,8 +401,9 @@ static int is_inside(uint64_t start, uint64_t length, size_t all) { return start
 /* A piece is one node; the tail has none. Gives the number of faults in it. */
 static size_t show_piece(struct text cue, struct room room, uint64_t number) {
   struct piece piece = piece_of(room, number);
-  struct walk walk = {{cue.bytes, 0}, 0};
-  printf("piece %" PRIu64 " start %" PRIu64 " length %" PRIu64 " words %" PRIu64, number, piece.start, piece.length, piece.words);
+  struct walk walk = {{cue.bytes, 0}, piece.counter, 0};
+  printf("piece %" PRIu64 " start %" PRIu64 " length %" PRIu64 " words %" PRIu64 " counter %" PRIu64, number, piece.start, piece.length,
+         piece.words, piece.counter);
   if (!is_inside(piece.start, piece.length, cue.length) || !is_inside(piece.first_word, piece.words, room.words_length)) {
     fault(&walk, "outside text or words");
     putchar('\n');

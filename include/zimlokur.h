@@ -5,9 +5,10 @@
  * array may be NULL. What is read is said in docs/SCOPE.md, what the words mean in docs/RECORDS.md, what a refusal means in
  * docs/QUESTIONS.md. The promise of each call is proved of the code (crates/zimlokur).
  *
- * The archive libzimlokur.a is for x86-64 Linux. A call needs some 21,000 bytes of stack (20,136 measured at the deepest text).
- * For a text of n bytes, n + n/3 words and n/3 + 2 directory words are enough; this is argued by hand and measured, not proved. 8n and 2n
- * follow by addition from bounds that are proved, and no theorem states them (docs/RECORDS.md). For a re-reading take the longer text. More room changes nothing but the zeros behind.
+ * The archive libzimlokur.a is for x86-64 Linux. A call needs some 21,000 bytes of stack (20,328 measured at the deepest text).
+ * For a text of n bytes, n + n/3 words and n/2 + 2 directory words are enough, three of these for each piece; this is argued by hand and
+ * measured, not proved. 8n and 3n follow by addition from bounds that are proved, and no theorem states them (docs/RECORDS.md). For a
+ * re-reading take the longer text. More room changes nothing but the zeros behind.
  */
 #ifndef ZIMLOKUR_H
 #define ZIMLOKUR_H
@@ -42,12 +43,15 @@ enum zimlokur_question {
     ZIMLOKUR_Q_CHILDREN = 19,
     ZIMLOKUR_Q_WORDS = 20,
     ZIMLOKUR_Q_ENTRIES = 21,
-    ZIMLOKUR_Q_OLDER = 22
+    ZIMLOKUR_Q_OLDER = 22,
+    ZIMLOKUR_Q_COUNTER = 26
 };
 
-/* How deep types and values nest at most: question 16 refuses what stands deeper. A tree has at most three nodes above them. */
+/* How deep types and values nest at most: question 16 refuses what stands deeper. A tree has at most three nodes above them.
+ * How many words of the directory an entry has. */
 enum zimlokur_limit {
-    ZIMLOKUR_DEPTH_LIMIT = 19
+    ZIMLOKUR_DEPTH_LIMIT = 19,
+    ZIMLOKUR_ENTRY_WORDS = 3
 };
 
 /* Kinds of nodes: the upper 8 bits of a header. */
@@ -143,8 +147,12 @@ enum zimlokur_linkage {
  *
  * Returns 0 where it is accepted, else the number of the question that refuses.
  * Accepted: *entries is the number of pieces, *place is 0. words has the nodes' words of each piece, one piece behind the other;
- *   directory has two words for each piece: start and length in the text, first word and number of words (upper and lower 32 bits of
- *   each). Every word behind those, in both arrays, is 0.
+ *   directory has ZIMLOKUR_ENTRY_WORDS words for each piece: start and length in the text, first word and number of words (upper and lower
+ *   32 bits of each), and the counter at the piece's start. Every word behind those, in both arrays, is 0.
+ * The counter is the next number that something without a name takes: a parameter, a block without a label, a call that is not void. It
+ *   starts at 0 and goes on from piece to piece; a name that is a number must not be below it, and the counter is then that number plus
+ *   one. So a block without a label has its third word as its number. Question 26 refuses a number below the counter, one that is not
+ *   below 2^32, and a label behind an instruction of its block.
  * Refused: *place is where, *entries is 0, and every word of both arrays is 0.
  * Answer, place and every word of both arrays are those of the definition `readingOf` of the text and the two lengths alone.
  */
@@ -158,11 +166,16 @@ uint64_t zimlokur_parse_define(const uint8_t *text, size_t text_len, uint64_t *w
  *   none was), *read how many were; the arrays are as
  *   zimlokur_parse_define would have left them for the newer text, if they were as it left them for the older text, with
  *   older_entries the count that it gave.
+ *   Pieces behind an edit are kept only where the counter there is the one that their entry has. So an edit that leaves the numbers alone
+ *   reads little, and one that shifts all of them reads on, up to a numbered label that agrees again or to the end, which takes twice as
+ *   long as a full reading. It may then be refused with 26 far behind the edit.
  * Refused: *place is where, *entries, *first and *read are 0, and every word of both arrays is as it was lent: the next edit is one of the last
  *   accepted text again, with the entry count that it had.
  * Any number of calls, accepted and refused, behind an accepted zimlokur_parse_define in the same arrays: if each accepted one was lent the last
  *   accepted text and its entry count, the arrays are in the end as zimlokur_parse_define would leave them for the last accepted text. The
  *   refused ones may have been lent any older text and count. An accepted call that was lent another text or count ends this.
+ * Question 22 asks of the older records nothing but their directory: at least two entries within the array, each beginning where the last
+ * ended, inside the older text and the words, with a counter of at most 2^32.
  * Whatever older text, records and count are lent, answer, place and every word are those of the definition `rereadingOf` of both texts,
  * both arrays and the count as they stood before the call: there is one result.
  */

@@ -30,8 +30,12 @@ const LEXER: &[Change] = &[
 ];
 
 const PARSER: &[Change] = &[
-    change(1, "    input: Lexer,\n}", "    input: Lexer,\n    depth: usize,\n    pub bare: Option<usize>,\n}"),
-    change(1, "Parser { input }", "Parser { input, depth: 0, bare: None }"),
+    change(
+        1,
+        "    input: Lexer,\n}",
+        "    input: Lexer,\n    depth: usize,\n    pub bare: Option<usize>,\n    counter: u64,\n}",
+    ),
+    change(1, "Parser { input }", "Parser { input, depth: 0, bare: None, counter: 0 }"),
     // M-101
     change(
         1,
@@ -176,11 +180,32 @@ const PARSER: &[Change] = &[
     change(
         4,
         "insts.push(Inst { dest: None, kind });",
-        "insts.push(Inst { dest: None, kind });\n                    self.note_child(insts.len(), &mut over);",
+        "self.number_call(&kind)?;\n                    insts.push(Inst { dest: None, kind });\n                    self.note_child(insts.len(), &mut over);",
     ),
     change(
         4,
         "blocks.push(finish_block(",
         "self.ask_block(insts.len(), &mut over)?;\n                    blocks.push(finish_block(",
+    ),
+    // 26: parameters, destinations, labels, blocks; calls above
+    change(
+        1,
+        "                Some(self.parse_local_name()?)\n            } else {\n                None\n",
+        "                Some(self.parse_counted_name()?)\n            } else {\n                self.take_number()?;\n                None\n",
+    ),
+    change(
+        1,
+        "                let dest = self.parse_local_name()?;\n",
+        "                let start = self.input.checkpoint();\n                self.number_block(start, label.is_some() || !insts.is_empty())?;\n                let dest = self.parse_counted_name()?;\n",
+    ),
+    change(
+        1,
+        "            let word = self.read_word()?;\n            if word.is_empty() {",
+        "            let (start, quoted) = (self.input.checkpoint(), c == '\"');\n            let word = self.read_word()?;\n            if word.is_empty() {",
+    ),
+    change(
+        1,
+        "            if self.input.match_char(':') {\n                label = Some(word);\n                continue;\n            }\n",
+        "            if self.input.peek_ch() == ':' {\n                self.ask_label(&word, quoted, &insts)?;\n                self.input.eat_ch();\n                label = Some(word);\n                continue;\n            }\n            self.number_block(start, label.is_some() || !insts.is_empty())?;\n",
     ),
 ];

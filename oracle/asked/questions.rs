@@ -117,6 +117,83 @@ impl Parser
     }
 }
 
+/// 26 (M-106): numbers are below this.
+const NUMBERS: u64 = 1 << 32;
+
+impl Parser
+{
+    /// 26: the next number, for what has no name.
+    fn take_number(&mut self) -> Result<(), ParseError>
+    {
+        if self.counter >= NUMBERS {
+            return self.input.parse_error("question 26");
+        }
+        self.counter += 1;
+        Ok(())
+    }
+
+    /// 26: the name of a parameter, destination or label has just been read.
+    fn ask_number(&mut self, name: &str, quoted: bool) -> Result<(), ParseError>
+    {
+        if quoted || !name.chars().all(|c| c.is_ascii_digit()) {
+            return Ok(());
+        }
+        let digits = name.trim_start_matches('0');
+        let number = match digits {
+            "" => Some(0),
+            digits if digits.len() <= 10 => digits.parse::<u64>().ok(),
+            _ => None,
+        };
+        match number {
+            Some(n) if self.counter <= n && n < NUMBERS => self.counter = n + 1,
+            _ => return self.input.parse_error("question 26"),
+        }
+        Ok(())
+    }
+
+    fn parse_counted_name(&mut self) -> Result<String, ParseError>
+    {
+        let sigil = self.input.checkpoint();
+        self.input.eat_ch();
+        let quoted = self.input.peek_ch() == '"';
+        self.input.restore(sigil);
+        let name = self.parse_local_name()?;
+        self.ask_number(&name, quoted)?;
+        Ok(name)
+    }
+
+    /// 26: a label, before its `:`, behind an instruction or not.
+    fn ask_label(&mut self, name: &str, quoted: bool, insts: &[Inst]) -> Result<(), ParseError>
+    {
+        if !insts.is_empty() {
+            return self.input.parse_error("question 26");
+        }
+        self.ask_number(name, quoted)
+    }
+
+    /// 26: a statement begins there, in a block that has a label or another statement before it, or not.
+    fn number_block(&mut self, start: crate::lexer::Checkpoint, entered: bool) -> Result<(), ParseError>
+    {
+        if entered {
+            return Ok(());
+        }
+        let behind = self.input.checkpoint();
+        self.input.restore(start);
+        self.take_number()?;
+        self.input.restore(behind);
+        Ok(())
+    }
+
+    /// 26: an instruction without a destination has been read; a call that is not void takes a number.
+    fn number_call(&mut self, kind: &InstKind) -> Result<(), ParseError>
+    {
+        match kind {
+            InstKind::Call { ret_ty, .. } if *ret_ty != Type::Void => self.take_number(),
+            _ => Ok(()),
+        }
+    }
+}
+
 /// Zero, or at most 15 digits without outer zeros, times ten to the -22 up to 22.
 fn supported(s: &str) -> bool
 {

@@ -22,6 +22,10 @@ enum fault {
   OLDER_RECORDS,
   ZEROS_ON_REFUSAL,
   WORD_CHANGED_ON_REFUSAL,
+  NO_COUNTERS,
+  COUNTED_FROM_0,
+  KEPT_COUNTERS_LOST,
+  FALLING_COUNTER,
   ALTERED_WORDS = 100 /* and above: altered in that many ways */
 };
 
@@ -92,12 +96,18 @@ static uint64_t spoil_refusal(uint64_t question, size_t text_len, uint64_t *word
   }
 }
 
+/* The counters from that entry on become 0. */
+static void lose_counters(uint64_t *directory, uint64_t number, uint64_t entries) {
+  for (; number < entries; number++)
+    directory[ZIMLOKUR_ENTRY_WORDS * number + 2] = 0;
+}
+
 /* The records of an accepted text, spoiled. */
 static void spoil_records(uint64_t *words, size_t words_len, uint64_t *directory, size_t directory_len, uint64_t *entries) {
   uint64_t state = 88172645463325252u + fault();
   switch (fault()) {
   case GAP_IN_LIST:
-    directory[2]++;
+    directory[ZIMLOKUR_ENTRY_WORDS]++;
     break;
   case DIRTY_END:
     words[words_len - 1] = 1;
@@ -120,12 +130,39 @@ static void spoil_records(uint64_t *words, size_t words_len, uint64_t *directory
   case WORDS_OF_ONES:
     memset(words, 0xFF, words_len * sizeof *words);
     break;
+  case NO_COUNTERS:
+    lose_counters(directory, 0, *entries);
+    break;
+  case FALLING_COUNTER: /* the tail's alone */
+    lose_counters(directory, *entries - 1, *entries);
+    break;
   default:
     if (fault() >= ALTERED_WORDS) {
-      alter(words, (size_t)(directory[2 * *entries - 1] >> 32), &state);
+      alter(words, (size_t)(directory[ZIMLOKUR_ENTRY_WORDS * (*entries - 1) + 1] >> 32), &state);
       if (fault() % 4 == 0)
-        alter(directory, (size_t)(2 * *entries), &state);
+        alter(directory, (size_t)(ZIMLOKUR_ENTRY_WORDS * *entries), &state);
     }
+  }
+}
+
+/* So many entries are counted as if no number had been taken before them. */
+static void count_from_0(uint64_t *directory, uint64_t entries) {
+  uint64_t before = entries > 0 ? directory[2] : 0;
+  for (uint64_t number = 0; number < entries; number++)
+    directory[ZIMLOKUR_ENTRY_WORDS * number + 2] -= before;
+}
+
+/* The records of an accepted edit, spoiled: the counters of the pieces that were read, or of those kept behind. */
+static void spoil_edit(uint64_t *directory, uint64_t entries, uint64_t first, uint64_t read) {
+  switch (fault()) {
+  case COUNTED_FROM_0:
+    count_from_0(directory + ZIMLOKUR_ENTRY_WORDS * first, read);
+    break;
+  case KEPT_COUNTERS_LOST:
+    lose_counters(directory, first + read, entries);
+    break;
+  default:
+    break;
   }
 }
 
@@ -166,5 +203,7 @@ uint64_t __wrap_zimlokur_reparse_define(const uint8_t *older, size_t older_len, 
                                             place, entries, first, read);
   if (question)
     spoil_older_records(words, words_len, directory, directory_len);
+  else
+    spoil_edit(directory, *entries, *first, *read);
   return question;
 }

@@ -14,9 +14,10 @@ use Rattle.program.specs.Bytes.{bytes}
 use Rattle.program.specs.Prog.{Prog}
 use Rattle.grammar.specs.Lexer.{refuse, sameWord, rank}
 use Rattle.grammar.specs.Values.{binOps}
-use Rattle.grammar.specs.Instructions.{among, isWordThen, fbinOps, instConvOps, tailWords, parseBin, parseFbin, parseFneg, parseConv, parseIcmp, parseFcmp, parseSelect, parseLoad, parseGepInst, parsePhi, parseAlloca, parseFreeze, parseCall, parseCmpxchg, parseAtomicrmw, parseExtractvalue, parseTailCall, parseStore, parseFence, parseRet, parseBr, parseSwitch, parseUnreachable, valueInst, plainInst}
-use Rattle.grammar.specs.Body.{Statement, asTerminator, opcode}
-use Rattle.blocks.specs.Opcodes.{valueOpcodes, valueAt, statementWords, terminatorAt, plainAt, asInstruction, statementAt}
+use Rattle.grammar.specs.Counter.{Counted}
+use Rattle.grammar.specs.Instructions.{among, isWordThen, fbinOps, instConvOps, tailWords, parseBin, parseFbin, parseFneg, parseConv, parseIcmp, parseFcmp, parseSelect, parseLoad, parseGepInst, parsePhi, parseAlloca, parseFreeze, parseCall, parseCmpxchg, parseAtomicrmw, parseExtractvalue, parseTailCall, parseStore, parseFence, parseRet, parseBr, parseSwitch, parseUnreachable, valueInst, plainInst, parsePlainCall, parsePlainTailCall, uncounted}
+use Rattle.grammar.specs.Body.{Statement, asTerminator, asInstruction, opcode}
+use Rattle.blocks.specs.Opcodes.{valueOpcodes, valueAt, statementWords, terminatorAt, plainAt, statementAt}
 
 -- ---- ranks
 rank-step : (w k : List ℕ) (ks : List (List ℕ)) (b : Bool) → sameWord w k ≡ b → rank w (k ∷ ks) ≡ elim b [ true ↦ 0 | false ↦ suc (rank w ks) ]
@@ -203,55 +204,59 @@ value-at dest w r e =
     chain-at w 0 r (many binOps (λ op. parseBin op dest) ∷ valueArms dest) [] (refuse 9) (none dest r) (e ∙ sym (zero-add (rank w valueOpcodes))) (λ _. refl) ∙
     ap (λ (op : ℕ). elim (ltb r 13) [ true ↦ parseBin op dest | false ↦ armAt 13 (valueArms dest) (none dest r) r ]) (sub-zero r)
 
--- ---- at the beginning of a statement
-terminators : List (Arm Statement)
-terminators =
-    one (bytes "ret") (asTerminator parseRet) ∷ one (bytes "br") (asTerminator parseBr) ∷ one (bytes "switch") (asTerminator parseSwitch) ∷
-    one (bytes "unreachable") (asTerminator parseUnreachable) ∷ []
+-- ---- at the beginning of a statement, where the counter is c
+module _ (c : ℕ) where
+  terminators : List (Arm Statement)
+  terminators =
+      one (bytes "ret") (asTerminator c parseRet) ∷ one (bytes "br") (asTerminator c parseBr) ∷ one (bytes "switch") (asTerminator c parseSwitch) ∷
+      one (bytes "unreachable") (asTerminator c parseUnreachable) ∷ []
 
-plainWords : List (Arm (List ℕ))
-plainWords = one (bytes "store") parseStore ∷ one (bytes "fence") parseFence ∷ one (bytes "call") (parseCall 0) ∷ []
+  plainTail : Arm (Counted (List ℕ))
+  plainTail = many tailWords (λ r. parsePlainTailCall c)
 
-plainArms : List (Arm (List ℕ))
-plainArms = plainWords ++ (tailArm 0 ∷ [])
+  plainWords : List (Arm (Counted (List ℕ)))
+  plainWords = one (bytes "store") (uncounted c parseStore) ∷ one (bytes "fence") (uncounted c parseFence) ∷ one (bytes "call") (parsePlainCall c) ∷ []
 
-plain-at : (w : List ℕ) (r : ℕ) → r ≡ 4 + rank w (words plainArms) → plainInst w (refuse 9) ≡ plainAt r
-unfolding chain words armAt tailArm plainWords plainArms plainInst plainAt tailWords
-plain-at w r e = chain-at w 4 r plainArms [] (refuse 9) (λ _. refuse 9) e (λ _. refl)
+  plainArms : List (Arm (Counted (List ℕ)))
+  plainArms = plainWords ++ (plainTail ∷ [])
 
-by-terminator : (r : ℕ) (g : ℕ → Prog Statement) → armAt 0 terminators g r ≡ elim (ltb r 4) [ true ↦ asTerminator (terminatorAt r) | false ↦ g r ]
-unfolding armAt words terminators terminatorAt
-by-terminator zero g = refl
-by-terminator (suc zero) g = refl
-by-terminator (suc (suc zero)) g = refl
-by-terminator (suc (suc (suc zero))) g = refl
-by-terminator (suc (suc (suc (suc n)))) g =
-    let l : 4 ≤ suc (suc (suc (suc n))) = omega arith in
-    past 0 (suc (suc (suc (suc n)))) terminators [] g l ∙ rw (le-ltb (suc (suc (suc (suc n)))) 4 l)
+  plain-at : (w : List ℕ) (r : ℕ) → r ≡ 4 + rank w (words plainArms) → plainInst c w (refuse 9) ≡ plainAt c r
+  unfolding chain words armAt plainTail plainWords plainArms plainInst plainAt tailWords
+  plain-at w r e = chain-at w 4 r plainArms [] (refuse 9) (λ _. refuse 9) e (λ _. refl)
 
-pub statement-at : (w : List ℕ) (r : ℕ) → r ≡ rank w statementWords → opcode w ≡ statementAt r
-unfolding chain words armAt tailArm terminators plainWords plainArms opcode statementAt asInstruction statementWords tailWords
-statement-at w r e =
-    chain-at w 0 r terminators (words plainArms) (asInstruction (plainInst w (refuse 9))) (λ n. asInstruction (plainAt n)) (e ∙ sym (zero-add (rank w statementWords))) (λ z. ap asInstruction (plain-at w r z)) ∙
-    by-terminator r (λ n. asInstruction (plainAt n))
+  by-terminator : (r : ℕ) (g : ℕ → Prog Statement) → armAt 0 terminators g r ≡ elim (ltb r 4) [ true ↦ asTerminator c (terminatorAt r) | false ↦ g r ]
+  unfolding armAt words terminators terminatorAt
+  by-terminator zero g = refl
+  by-terminator (suc zero) g = refl
+  by-terminator (suc (suc zero)) g = refl
+  by-terminator (suc (suc (suc zero))) g = refl
+  by-terminator (suc (suc (suc (suc n)))) g =
+      let l : 4 ≤ suc (suc (suc (suc n))) = omega arith in
+      past 0 (suc (suc (suc (suc n)))) terminators [] g l ∙ rw (le-ltb (suc (suc (suc (suc n)))) 4 l)
 
-module _ (r : ℕ) where
-  pub statement-end : r < 4 → statementAt r ≡ asTerminator (terminatorAt r)
-  unfolding statementAt
-  statement-end h = ap (λ (z : Bool). elim z [ true ↦ asTerminator (terminatorAt r) | false ↦ asInstruction (plainAt r) ]) (lt-ltb r 4 h)
+  pub statement-at : (w : List ℕ) (r : ℕ) → r ≡ rank w statementWords → opcode c w ≡ statementAt c r
+  unfolding chain words armAt plainTail terminators plainWords plainArms opcode statementAt statementWords tailWords
+  statement-at w r e =
+      chain-at w 0 r terminators (words plainArms) (asInstruction (plainInst c w (refuse 9))) (λ n. asInstruction (plainAt c n)) (e ∙ sym (zero-add (rank w statementWords))) (λ z. ap asInstruction (plain-at w r z)) ∙
+      by-terminator r (λ n. asInstruction (plainAt c n))
 
-  pub statement-plain : 4 ≤ r → statementAt r ≡ asInstruction (plainAt r)
-  unfolding statementAt
-  statement-plain h = ap (λ (z : Bool). elim z [ true ↦ asTerminator (terminatorAt r) | false ↦ asInstruction (plainAt r) ]) (le-ltb r 4 h)
+  module _ (r : ℕ) where
+    pub statement-end : r < 4 → statementAt c r ≡ asTerminator c (terminatorAt r)
+    unfolding statementAt
+    statement-end h = ap (λ (z : Bool). elim z [ true ↦ asTerminator c (terminatorAt r) | false ↦ asInstruction (plainAt c r) ]) (lt-ltb r 4 h)
 
-  by-plain : 7 ≤ r → plainAt r ≡ armAt 7 (tailArm 0 ∷ []) (λ _. refuse 9) r
-  unfolding words armAt tailArm plainWords plainAt tailWords
-  by-plain l = past 4 r plainWords (tailArm 0 ∷ []) (λ _. refuse 9) l
+    pub statement-plain : 4 ≤ r → statementAt c r ≡ asInstruction (plainAt c r)
+    unfolding statementAt
+    statement-plain h = ap (λ (z : Bool). elim z [ true ↦ asTerminator c (terminatorAt r) | false ↦ asInstruction (plainAt c r) ]) (le-ltb r 4 h)
 
-  pub plain-tail : 7 ≤ r → r < 10 → plainAt r ≡ parseTailCall 0
-  unfolding tailArm tailWords
-  plain-tail l h = by-plain l ∙ many-at [] [] (refuse 9) 7 r (λ _. refuse 9) tailWords (λ n. parseTailCall 0) true (lt-ltb r 10 h)
+    by-plain : 7 ≤ r → plainAt c r ≡ armAt 7 (plainTail ∷ []) (λ _. refuse 9) r
+    unfolding words armAt plainTail plainWords plainAt tailWords
+    by-plain l = past 4 r plainWords (plainTail ∷ []) (λ _. refuse 9) l
 
-  pub plain-none : 10 ≤ r → plainAt r ≡ refuse 9
-  unfolding armAt tailArm tailWords
-  plain-none l = by-plain (omega arith) ∙ many-at [] [] (refuse 9) 7 r (λ _. refuse 9) tailWords (λ n. parseTailCall 0) false (le-ltb r 10 l)
+    pub plain-tail : 7 ≤ r → r < 10 → plainAt c r ≡ parsePlainTailCall c
+    unfolding plainTail tailWords
+    plain-tail l h = by-plain l ∙ many-at [] [] (refuse 9) 7 r (λ _. refuse 9) tailWords (λ n. parsePlainTailCall c) true (lt-ltb r 10 h)
+
+    pub plain-none : 10 ≤ r → plainAt c r ≡ refuse 9
+    unfolding armAt plainTail tailWords
+    plain-none l = by-plain (omega arith) ∙ many-at [] [] (refuse 9) 7 r (λ _. refuse 9) tailWords (λ n. parsePlainTailCall c) false (le-ltb r 10 l)

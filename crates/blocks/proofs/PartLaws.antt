@@ -16,13 +16,13 @@ use Rattle.blocks.specs.Part.{BlockIn, BlockDry}
 
 -- the stretch from `at` up to `to` is now xs
 module _ (at to : ℕ) (words xs : List ℕ) (h : at ≤ to) (k : to ≤ length words) (l : length xs ≡ to - at) where
-  pub block-in : (s : List ℕ) {b : BlockRead} {r : Piece} → blockAt s ≡ b → BlockIs b r xs → BlockIn s at to words (putMid at (to - at) words xs) r
-  block-in s t (is-block {ws = ws} q g) = record { ws = ws; is = t; many = q; stands = λ m. rw q (standing at to words xs h k l ws g (omega arith)); within = within at to words xs h k l }
-  block-in s t is-tail = (t, within at to words xs h k l)
-  block-in s t (no-block {q} {p}) = (record { is = t; inside = block-place s q p t }, within at to words xs h k l .long)
+  pub block-in : (d : ℕ) (s : List ℕ) {b : BlockRead} {r : Piece} → blockAt d s ≡ b → BlockIs b r xs → BlockIn d s at to words (putMid at (to - at) words xs) r
+  block-in d s t (is-block {ws = ws} q g) = record { ws = ws; is = t; many = q; stands = λ m. rw q (standing at to words xs h k l ws g (omega arith)); within = within at to words xs h k l }
+  block-in d s t is-tail = (t, within at to words xs h k l)
+  block-in d s t (no-block {q} {p}) = (record { is = t; inside = block-place d s q p t }, within at to words xs h k l .long)
 
 -- words only counted
-pub block-dry : (s : List ℕ) {b : BlockRead} {r : Piece} {xs : List ℕ} → blockAt s ≡ b → BlockIs b r xs → BlockDry s r
-block-dry s t (is-block {ws = ws} q g) = record { ws = ws; is = t; many = q }
-block-dry s t is-tail = t
-block-dry s t (no-block {q} {p}) = record { is = t; inside = block-place s q p t }
+pub block-dry : (d : ℕ) (s : List ℕ) {b : BlockRead} {r : Piece} {xs : List ℕ} → blockAt d s ≡ b → BlockIs b r xs → BlockDry d s r
+block-dry d s t (is-block {ws = ws} q g) = record { ws = ws; is = t; many = q }
+block-dry d s t is-tail = t
+block-dry d s t (no-block {q} {p}) = record { is = t; inside = block-place d s q p t }

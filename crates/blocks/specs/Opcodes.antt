@@ -6,11 +6,12 @@ use mathlib.Core.List.{List, _∷_, _++_}
 use Prim.Native.Nat.{ℕ, _-_}
 use lib.Dec.{ltb, eqb}
 use Rattle.program.specs.Bytes.{bytes}
-use Rattle.program.specs.Prog.{Prog, ret, _>>=_}
+use Rattle.program.specs.Prog.{Prog}
 use Rattle.grammar.specs.Lexer.{refuse}
+use Rattle.grammar.specs.Counter.{Counted}
 use Rattle.grammar.specs.Values.{binOps}
-use Rattle.grammar.specs.Instructions.{fbinOps, instConvOps, tailWords, parseBin, parseFbin, parseFneg, parseConv, parseIcmp, parseFcmp, parseSelect, parseLoad, parseGepInst, parsePhi, parseAlloca, parseFreeze, parseCall, parseCmpxchg, parseAtomicrmw, parseExtractvalue, parseTailCall, parseStore, parseFence, parseRet, parseBr, parseSwitch, parseUnreachable}
-use Rattle.grammar.specs.Body.{Statement, instruction, asTerminator}
+use Rattle.grammar.specs.Instructions.{fbinOps, instConvOps, tailWords, parseBin, parseFbin, parseFneg, parseConv, parseIcmp, parseFcmp, parseSelect, parseLoad, parseGepInst, parsePhi, parseAlloca, parseFreeze, parseCall, parseCmpxchg, parseAtomicrmw, parseExtractvalue, parseTailCall, parseStore, parseFence, uncounted, parsePlainCall, parsePlainTailCall, parseRet, parseBr, parseSwitch, parseUnreachable}
+use Rattle.grammar.specs.Body.{Statement, asTerminator, asInstruction}
 
 -- 0 binary, 13 floating binary, 18 `fneg`, 19 conversions, 31 `icmp` and on, 43 the words before `call`; 46 is none
 unfoldable pub valueOpcodes : List (List ℕ)
@@ -115,19 +116,19 @@ terminatorAt r =
           ]
     ]
 
-unfoldable pub plainAt : ℕ → Prog (List ℕ)
-plainAt r =
+unfoldable pub plainAt : (c r : ℕ) → Prog (Counted (List ℕ))
+plainAt c r =
     elim (eqb r 4) [
-      | true ↦ parseStore
+      | true ↦ uncounted c parseStore
       | false ↦
           elim (eqb r 5) [
-            | true ↦ parseFence
+            | true ↦ uncounted c parseFence
             | false ↦
                 elim (eqb r 6) [
-                  | true ↦ parseCall 0
+                  | true ↦ parsePlainCall c
                   | false ↦
                       elim (ltb r 10) [
-                        | true ↦ parseTailCall 0
+                        | true ↦ parsePlainTailCall c
                         | false ↦
                             refuse 9
                       ]
@@ -135,8 +136,5 @@ plainAt r =
           ]
     ]
 
-unfoldable pub asInstruction : Prog (List ℕ) → Prog Statement
-asInstruction p = p >>= λ ws. ret (instruction ws)
-
-unfoldable pub statementAt : ℕ → Prog Statement
-statementAt r = elim (ltb r 4) [ true ↦ asTerminator (terminatorAt r) | false ↦ asInstruction (plainAt r) ]
+unfoldable pub statementAt : (c r : ℕ) → Prog Statement
+statementAt c r = elim (ltb r 4) [ true ↦ asTerminator c (terminatorAt r) | false ↦ asInstruction (plainAt c r) ]

@@ -1,9 +1,11 @@
 // Opcodes: their rank in one table of all that may stand there, a quick way for the most frequent, and the reader of each. A word is lent by its
 // places and compared with quotes and escapes undone.
+use counters::Counter;
 use lexer::Parsed;
 ghost use mathlib.Core.Path.{_≡_};
 ghost use Prim.Native.Nat.{_<_, _≤_};
 ghost use Rattle.grammar.specs.Lexer.{rank, spelled};
+ghost use Rattle.grammar.specs.Counter.{counted};
 ghost use Rattle.lexer.specs.Table.{Classes};
 ghost use Rattle.names.specs.Names.{part, rawWord};
 ghost use Rattle.blocks.specs.Opcodes.{valueOpcodes, statementWords, valueAt, terminatorAt, plainAt};
@@ -325,20 +327,32 @@ pub fn terminator(classes: &[u8; 256], text: &[u8], words: &mut [u64], p: Parsed
     }
 }
 
-// An instruction without a destination behind its word; 9 where no opcode stands there.
-pub fn plain_inst(classes: &[u8; 256], text: &[u8], words: &mut [u64], p: Parsed, r: u8) -> Parsed
+// An instruction without a destination behind its word, where the counter is c; 9 where no opcode stands there.
+pub fn plain_inst(
+    classes: &[u8; 256],
+    text: &[u8],
+    words: &mut [u64],
+    p: Parsed,
+    r: u8,
+    c: u64,
+) -> Counter
     requires { ⌜ (4 ≤ r) × Classes (now classes) ⌝ }
-    ensures { λ x. ⌜ Leads (plainAt r) 3 [] (richly (now (text .entry)) (made same (now (text .entry)) p)) (now (text .entry)) p p (now (words .entry)) x (now (words .exit)) ⌝ }
+    ensures { λ x. ⌜ Leads (plainAt c r) 3 [] (richly (now (text .entry)) (made (counted (x .c)) (now (text .entry)) p)) (now (text .entry)) p p (now (words .entry)) (x .p) (now (words .exit)) ⌝ }
 {
     if S_TAIL <= r {
         if r < S_NONE {
-            return calls::parse_tail_call(classes, text, words, p, 0);
+            return calls::parse_plain_tail_call(classes, text, words, p, c);
         }
-        return lexer::refuse(p, records::Q_OPCODE);
+        let q = lexer::refuse(p, records::Q_OPCODE);
+        return Counter { p: q, c };
     }
-    match r {
-        S_STORE => memory::parse_store(classes, text, words, p),
-        S_FENCE => memory::parse_fence(classes, text, words, p),
-        _ => calls::parse_call(classes, text, words, p, 0),
+    if r == S_STORE {
+        let q1 = memory::parse_store(classes, text, words, p);
+        return Counter { p: q1, c };
     }
+    if r == S_FENCE {
+        let q2 = memory::parse_fence(classes, text, words, p);
+        return Counter { p: q2, c };
+    }
+    calls::parse_plain_call(classes, text, words, p, c)
 }

@@ -1,2 +1,3 @@
 pub mod CallLaws
 pub mod CopyLaws
+pub mod VoidLaws

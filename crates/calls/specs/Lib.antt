@@ -1,2 +1,3 @@
 pub mod Copy
 pub mod Func
+pub mod Void

@@ -1,4 +1,5 @@
 // `parse_call`: a function type in a call repeats the return type, whose words are copied to where they belong too.
+use counters::Counter;
 use lexer::Cursor;
 use lexer::Parsed;
 use types::Listed;
@@ -9,12 +10,14 @@ ghost use Prim.Native.Nat.{ℕ, _+_, _≤_, _<_};
 ghost use lib.ListN.{length};
 ghost use Rattle.program.specs.Prog.{ret};
 ghost use Rattle.grammar.specs.Types.{listed};
-ghost use Rattle.grammar.specs.Instructions.{argItem, parseArgList, callRest, parseCall, parseTailCall};
+ghost use Rattle.grammar.specs.Instructions.{argItem, parseArgList, callRest, parseCall, parseTailCall, parsePlainCall, parsePlainTailCall};
 ghost use Rattle.lexer.specs.Table.{Classes};
 ghost use Rattle.lexer.specs.Reads.{Leads, Counts, made, same};
 ghost use Rattle.operands.specs.Rich.{richly};
 ghost use Rattle.calls.specs.Copy.{copied, Held};
 ghost use Rattle.calls.specs.Func.{funcType};
+ghost use Rattle.calls.specs.Void.{VoidType, Voids, voidP};
+ghost use Rattle.grammar.specs.Counter.{counted};
 
 // An argument: a typed value with attributes behind its type, as the next children of a list, which has n so far.
 fn arg_item(classes: &[u8; 256], text: &[u8], words: &mut [u64], p: Parsed, n: u16) -> Pair
@@ -162,7 +165,65 @@ fn func_type(classes: &[u8; 256], text: &[u8], words: &mut [u64], p: Parsed, s: 
     writer::close(words, p, q2, records::K_FUNC, l.dots, l.n)
 }
 
+// Where the reader is behind a call, and whether it is void, if it has no destination.
+struct Called {
+    p: Parsed,
+    void: bool,
+}
+
+// Is that the header of void's node? It was read where the reader has come behind it with a word.
+fn is_void(p: Parsed, first: u64) -> bool
+    ensures { λ r. ⌜ r ≡ voidP p first ⌝ }
+{
+    match p {
+        Parsed::Ok(c) => {
+            if 0 < c.w {
+                first == records::VOID_NODE
+            } else {
+                false
+            }
+        }
+        Parsed::Refused(e, q) => false,
+    }
+}
+
+// Is the type there void? It is asked of a call without a destination, whose type is read into a word of its own: no array may be lent for it.
+fn void_type(classes: &[u8; 256], text: &[u8], p: Parsed, dest: u64) -> bool
+    requires { ⌜ Classes (now classes) ⌝ }
+    ensures { λ r. ⌜ (dest ≡ 0 → VoidType (now (text .entry)) p r) ⌝ }
+{
+    if dest != 0 {
+        return false;
+    }
+    let nowhere = Parsed::Ok(Cursor { at: 0, w: 0 });
+    let q = operands::resume(nowhere, p);
+    let mut first: [u64; 1] = [0];
+    let q1 = types::parse_type(classes, text, &mut first, q, records::DEPTH_LIMIT);
+    is_void(q1, first[0])
+}
+
 // `call T V(..)`, behind the word.
+fn call_node(classes: &[u8; 256], text: &[u8], words: &mut [u64], p: Parsed, dest: u64) -> Called
+    requires { ⌜ Classes (now classes) ⌝ }
+    ensures { λ r. ⌜ Leads (parseCall dest) 3 [] (richly (now (text .entry)) (made same (now (text .entry)) p)) (now (text .entry)) p p (now (words .entry)) (r .p) (now (words .exit)) × (dest ≡ 0 → Voids (now (text .entry)) p (r .void)) ⌝ }
+{
+    let q = writer::begin(words, p, dest);
+    let q1 = attributes::skip_call_cconv(classes, text, q);
+    let s = attributes::skip_attrs(classes, text, q1);
+    let void = void_type(classes, text, s, dest);
+    let q2 = types::parse_type(classes, text, words, s, records::DEPTH_LIMIT);
+    let q3 = lexer::eat_ws(classes, text, q2);
+    if lexer::looks(text, q3, b'(') {
+        let q4 = lexer::pass(text, q3, 1);
+        let q5 = func_type(classes, text, words, q4, s);
+        let q6 = call_rest(classes, text, words, p, q5, records::D_FUNCTION_TYPE, 3);
+        return Called { p: q6, void };
+    }
+    let q7 = call_rest(classes, text, words, p, q3, records::D_NONE, 2);
+    Called { p: q7, void }
+}
+
+// `call T V(..)` with a destination, behind the word.
 pub fn parse_call(
     classes: &[u8; 256],
     text: &[u8],
@@ -173,17 +234,8 @@ pub fn parse_call(
     requires { ⌜ Classes (now classes) ⌝ }
     ensures { λ r. ⌜ Leads (parseCall dest) 3 [] (richly (now (text .entry)) (made same (now (text .entry)) p)) (now (text .entry)) p p (now (words .entry)) r (now (words .exit)) ⌝ }
 {
-    let q = writer::begin(words, p, dest);
-    let q1 = attributes::skip_call_cconv(classes, text, q);
-    let s = attributes::skip_attrs(classes, text, q1);
-    let q2 = types::parse_type(classes, text, words, s, records::DEPTH_LIMIT);
-    let q3 = lexer::eat_ws(classes, text, q2);
-    if lexer::looks(text, q3, b'(') {
-        let q4 = lexer::pass(text, q3, 1);
-        let q5 = func_type(classes, text, words, q4, s);
-        return call_rest(classes, text, words, p, q5, records::D_FUNCTION_TYPE, 3);
-    }
-    call_rest(classes, text, words, p, q3, records::D_NONE, 2)
+    let r = call_node(classes, text, words, p, dest);
+    r.p
 }
 
 // `tail call` and its like, behind the first word.
@@ -199,4 +251,39 @@ pub fn parse_tail_call(
 {
     let q = lexer::expect_keyword(classes, text, p, b"call");
     parse_call(classes, text, words, q, dest)
+}
+
+// `call T V(..)` without a destination, behind the word, where the counter is c: M-106, one that is not void takes the next number.
+pub fn parse_plain_call(
+    classes: &[u8; 256],
+    text: &[u8],
+    words: &mut [u64],
+    p: Parsed,
+    c: u64,
+) -> Counter
+    requires { ⌜ Classes (now classes) ⌝ }
+    ensures { λ r. ⌜ Leads (parsePlainCall c) 3 [] (richly (now (text .entry)) (made (counted (r .c)) (now (text .entry)) p)) (now (text .entry)) p p (now (words .entry)) (r .p) (now (words .exit)) ⌝ }
+{
+    let r = call_node(classes, text, words, p, 0);
+    let q = r.p;
+    if r.void {
+        return Counter { p: q, c };
+    }
+    let at = lexer::place(q);
+    counters::take_next(q, at, c)
+}
+
+// `tail call` and its like without a destination, behind the first word.
+pub fn parse_plain_tail_call(
+    classes: &[u8; 256],
+    text: &[u8],
+    words: &mut [u64],
+    p: Parsed,
+    c: u64,
+) -> Counter
+    requires { ⌜ Classes (now classes) ⌝ }
+    ensures { λ r. ⌜ Leads (parsePlainTailCall c) 3 [] (richly (now (text .entry)) (made (counted (r .c)) (now (text .entry)) p)) (now (text .entry)) p p (now (words .entry)) (r .p) (now (words .exit)) ⌝ }
+{
+    let q = lexer::expect_keyword(classes, text, p, b"call");
+    parse_plain_call(classes, text, words, q, c)
 }

@@ -13,18 +13,18 @@ use Rattle.records.specs.Kinds.{kind, Block}
 use Rattle.grammar.specs.Lexer.{refuse}
 use Rattle.grammar.specs.Body.{finishBlock}
 
-module _ (l n over : ℕ) (acc term : List ℕ) where
-  finish-by : (z y : Bool) → ltb n 65535 ≡ z → ltb 65535 n ≡ y → finishBlock l n over acc term ≡ elim z [ true ↦ ret (node (kind Block) 0 (n + 1) (l ∷ (acc ++ term))) | false ↦ elim y [ true ↦ fail 19 over | false ↦ refuse 19 ] ]
+module _ (c l n over : ℕ) (acc term : List ℕ) where
+  finish-by : (z y : Bool) → ltb n 65535 ≡ z → ltb 65535 n ≡ y → finishBlock c l n over acc term ≡ elim z [ true ↦ ret (c ∷ node (kind Block) 0 (n + 1) (l ∷ (acc ++ term))) | false ↦ elim y [ true ↦ fail 19 over | false ↦ refuse 19 ] ]
   unfolding finishBlock
   finish-by z y e t =
-      ap (λ (x : Bool). elim x [ true ↦ ret (node (kind Block) 0 (n + 1) (l ∷ (acc ++ term))) | false ↦ elim (ltb 65535 n) [ true ↦ fail 19 over | false ↦ refuse 19 ] ]) e ∙
-      ap (λ (x : Bool). elim z [ true ↦ ret (node (kind Block) 0 (n + 1) (l ∷ (acc ++ term))) | false ↦ elim x [ true ↦ fail 19 over | false ↦ refuse 19 ] ]) t
+      ap (λ (x : Bool). elim x [ true ↦ ret (c ∷ node (kind Block) 0 (n + 1) (l ∷ (acc ++ term))) | false ↦ elim (ltb 65535 n) [ true ↦ fail 19 over | false ↦ refuse 19 ] ]) e ∙
+      ap (λ (x : Bool). elim z [ true ↦ ret (c ∷ node (kind Block) 0 (n + 1) (l ∷ (acc ++ term))) | false ↦ elim x [ true ↦ fail 19 over | false ↦ refuse 19 ] ]) t
 
-  pub finish-in : n < 65535 → finishBlock l n over acc term ≡ ret (node (kind Block) 0 (n + 1) (l ∷ (acc ++ term)))
+  pub finish-in : n < 65535 → finishBlock c l n over acc term ≡ ret (c ∷ node (kind Block) 0 (n + 1) (l ∷ (acc ++ term)))
   finish-in h = finish-by true (ltb 65535 n) (lt-ltb n 65535 h) refl
 
-  pub finish-over : 65535 < n → finishBlock l n over acc term ≡ fail 19 over
+  pub finish-over : 65535 < n → finishBlock c l n over acc term ≡ fail 19 over
   finish-over h = finish-by false true (le-ltb n 65535 (omega arith)) (lt-ltb 65535 n h)
 
-  pub finish-full : 65535 ≤ n → n ≤ 65535 → finishBlock l n over acc term ≡ refuse 19
+  pub finish-full : 65535 ≤ n → n ≤ 65535 → finishBlock c l n over acc term ≡ refuse 19
   finish-full h k = finish-by false false (le-ltb n 65535 h) (le-ltb 65535 n k)

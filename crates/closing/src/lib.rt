@@ -5,7 +5,7 @@ ghost use mathlib.Core.Path.{_≡_};
 ghost use mathlib.Core.List.{List, _∷_, _++_};
 ghost use Prim.Native.Nat.{ℕ};
 ghost use Rattle.grammar.specs.Body.{overAt, finishBlock};
-ghost use Rattle.lexer.specs.Reads.{Leads, made, same};
+ghost use Rattle.lexer.specs.Reads.{Leads, made};
 ghost use Rattle.closing.specs.Pieces.{pieceOf, tailOf};
 
 // Question 19, for a count that goes past it.
@@ -18,7 +18,7 @@ pub fn over_at(n: usize, over: usize, at: usize) -> usize
     if n == CHILDREN { at } else { over }
 }
 
-// The block that was begun at p0: its label, and its header, or 19.
+// The block that was begun at p0: its label, and its header, or 19; whatever the counter behind it is.
 pub fn finish_block(
     words: &mut [u64],
     p0: Parsed,
@@ -27,7 +27,7 @@ pub fn finish_block(
     n: usize,
     over: usize,
 ) -> Parsed
-    ensures { λ r. ⌜ ((text acc term : List ℕ) → Leads (finishBlock label n over acc term) 0 (0 ∷ (0 ∷ (acc ++ term))) (made same text p0) text p0 p (now (words .entry)) r (now (words .exit))) ⌝ }
+    ensures { λ r. ⌜ ((c : ℕ) (text acc term : List ℕ) → Leads (finishBlock c label n over acc term) 0 (0 ∷ (0 ∷ (acc ++ term))) (made (_∷_ c) text p0) text p0 p (now (words .entry)) r (now (words .exit))) ⌝ }
 {
     if n < CHILDREN {
         let p1 = writer::patch(words, p0, p, 1, label);
@@ -40,12 +40,12 @@ pub fn finish_block(
     lexer::refuse(p, records::Q_CHILDREN)
 }
 
-// The answer of a head or block that is read.
-pub fn piece_of(p: Parsed) -> Piece
-    ensures { λ r. ⌜ r ≡ pieceOf p ⌝ }
+// The answer of a head or block that is read; d is the counter behind it.
+pub fn piece_of(p: Parsed, d: u64) -> Piece
+    ensures { λ r. ⌜ r ≡ pieceOf d p ⌝ }
 {
     match p {
-        Parsed::Ok(c) => Piece::Read(c.at, c.w),
+        Parsed::Ok(c) => Piece::Read(c.at, c.w, d),
         Parsed::Refused(e, q) => Piece::Refused(e, q as u64),
     }
 }

@@ -13,10 +13,10 @@ pub record Holds (ws words : List ℕ) : Type 0 where
   pub same : (i : ℕ) → i < length ws → i < length words → getD words i 0 ≡ getD ws i 0
 
 pub data HeadIs : HeadRead → Piece → List ℕ → Type 0 where
-  is-head : {e n : ℕ} {ws words : List ℕ} → n ≡ length ws → Holds ws words → HeadIs (head e ws) (Read e n) words
+  is-head : {e n d : ℕ} {ws words : List ℕ} → n ≡ length ws → Holds ws words → HeadIs (head e d ws) (Read e n d) words
   no-head : {q p : ℕ} {words : List ℕ} → HeadIs (badHead q p) (Refused q p) words
 
 pub data BlockIs : BlockRead → Piece → List ℕ → Type 0 where
-  is-block : {e n : ℕ} {ws words : List ℕ} → n ≡ length ws → Holds ws words → BlockIs (block e ws) (Read e n) words
+  is-block : {e n d : ℕ} {ws words : List ℕ} → n ≡ length ws → Holds ws words → BlockIs (block e d ws) (Read e n d) words
   is-tail : {e : ℕ} {words : List ℕ} → BlockIs (tail e) (Tail e) words
   no-block : {q p : ℕ} {words : List ℕ} → BlockIs (badBlock q p) (Refused q p) words

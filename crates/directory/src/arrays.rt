@@ -7,7 +7,7 @@ ghost use Prim.Native.Nat.{_+_, _-_, _*_, _≤_, _<_};
 ghost use lib.ListN.{length, take, drop, replicate, set};
 ghost use lib.Seq.{paste};
 ghost use Rattle.records.specs.Pieces.{oldSizes, oldWords, pad};
-ghost use Rattle.records.specs.Limits.{halfLimit};
+ghost use Rattle.records.specs.Limits.{halfLimit, entryWords};
 ghost use Rattle.records.specs.Words.{pack};
 ghost use Rattle.directory.specs.Olds.{oldsOf, moved};
 
@@ -30,15 +30,17 @@ pub fn wipe(words: &mut [u64], directory: &mut [u64])
     clear(directory, 0);
 }
 
-// "A directory entry is two words: start 32, length 32; first word 32, word count 32." Of the piece that stands there, where question 21 was asked.
+// "A directory entry is two words: start 32, length 32; first word 32, word count 32", and "a third word holding the counter at the piece's start"
+// (M-106). Of the piece that stands there, where question 21 was asked.
 pub fn put_entry(directory: &mut [u64], spot: Spot, size: Size)
-    requires { ⌜ spot .number * 2 + 2 ≤ length (now directory) ⌝ }
+    requires { ⌜ spot .number * entryWords + entryWords ≤ length (now directory) ⌝ }
     requires { ⌜ (spot .pos < halfLimit) × (size .bytes < halfLimit) × (spot .word < halfLimit) × (size .words < halfLimit) ⌝ }
-    ensures { λ r. ⌜ now (directory .exit) ≡ set (set (now (directory .entry)) (spot .number * 2) (pack (spot .pos) (size .bytes))) (spot .number * 2 + 1) (pack (spot .word) (size .words)) ⌝ }
+    ensures { λ r. ⌜ now (directory .exit) ≡ set (set (set (now (directory .entry)) (spot .number * entryWords) (pack (spot .pos) (size .bytes))) (spot .number * entryWords + 1) (pack (spot .word) (size .words))) (spot .number * entryWords + 2) (spot .counter) ⌝ }
 {
-    let i = spot.number * 2;
+    let i = spot.number * records::ENTRY_WORDS;
     directory[i] = spot.pos as u64 * records::HALF + size.bytes as u64;
     directory[i + 1] = spot.word as u64 * records::HALF + size.words as u64;
+    directory[i + 2] = spot.counter;
 }
 
 // The n words at `from` come to stand at `to`, which is not behind it.
@@ -82,20 +84,31 @@ pub fn move_words(words: &mut [u64], from: usize, to: usize, n: usize)
     }
 }
 
-// The n entries there come to start there in text and words, one behind the other.
+// The n entries there come to start there in text and words, one behind the other; each keeps its counter.
 fn renumber(directory: &mut [u64], spot: Spot, n: usize)
-    requires { ⌜ (spot .number + n) * 2 ≤ length (now directory) ⌝ }
-    requires { ⌜ (spot .pos + oldSizes (oldsOf n (drop (spot .number * 2) (now directory))) < halfLimit) × (spot .word + oldWords (oldsOf n (drop (spot .number * 2) (now directory))) < halfLimit) ⌝ }
-    ensures { λ r. ⌜ now (directory .exit) ≡ take (spot .number * 2) (now (directory .entry)) ++ (moved n (spot .pos) (spot .word) (drop (spot .number * 2) (now (directory .entry))) ++ drop ((spot .number + n) * 2) (now (directory .entry))) ⌝ }
+    requires { ⌜ (spot .number + n) * entryWords ≤ length (now directory) ⌝ }
+    requires { ⌜ (spot .pos + oldSizes (oldsOf n (drop (spot .number * entryWords) (now directory))) < halfLimit) × (spot .word + oldWords (oldsOf n (drop (spot .number * entryWords) (now directory))) < halfLimit) ⌝ }
+    ensures { λ r. ⌜ now (directory .exit) ≡ take (spot .number * entryWords) (now (directory .entry)) ++ (moved n (spot .pos) (spot .word) (drop (spot .number * entryWords) (now (directory .entry))) ++ drop ((spot .number + n) * entryWords) (now (directory .entry))) ⌝ }
 {
     let mut k: usize = 0;
     let mut pos = spot.pos;
     let mut word = spot.word;
     while k < n {
         let number = spot.number + k;
-        let bytes = (directory[number * 2] % records::HALF) as usize;
-        let words = (directory[number * 2 + 1] % records::HALF) as usize;
-        put_entry(directory, Spot { number, pos, word }, Size { bytes, words });
+        let at = number * records::ENTRY_WORDS;
+        let bytes = (directory[at] % records::HALF) as usize;
+        let words = (directory[at + 1] % records::HALF) as usize;
+        let counter = directory[at + 2];
+        put_entry(
+            directory,
+            Spot {
+                number,
+                pos,
+                word,
+                counter,
+            },
+            Size { bytes, words },
+        );
         pos += bytes;
         word += words;
         k += 1;
@@ -104,11 +117,16 @@ fn renumber(directory: &mut [u64], spot: Spot, n: usize)
 
 // The old entries from number `from` on come to stand there.
 pub fn move_entries(directory: &mut [u64], entries: usize, from: usize, spot: Spot)
-    requires { ⌜ (from ≤ entries) × (entries * 2 ≤ length (now directory)) × ((spot .number + (entries - from)) * 2 ≤ length (now directory)) ⌝ }
+    requires { ⌜ (from ≤ entries) × (entries * entryWords ≤ length (now directory)) × ((spot .number + (entries - from)) * entryWords ≤ length (now directory)) ⌝ }
     requires { ⌜ (spot .pos + oldSizes (drop from (oldsOf entries (now directory))) < halfLimit) × (spot .word + oldWords (drop from (oldsOf entries (now directory))) < halfLimit) ⌝ }
-    ensures { λ r. ⌜ now (directory .exit) ≡ take (spot .number * 2) (now (directory .entry)) ++ (moved (entries - from) (spot .pos) (spot .word) (drop (from * 2) (now (directory .entry))) ++ drop ((spot .number + (entries - from)) * 2) (now (directory .entry))) ⌝ }
+    ensures { λ r. ⌜ now (directory .exit) ≡ take (spot .number * entryWords) (now (directory .entry)) ++ (moved (entries - from) (spot .pos) (spot .word) (drop (from * entryWords) (now (directory .entry))) ++ drop ((spot .number + (entries - from)) * entryWords) (now (directory .entry))) ⌝ }
 {
     let n = entries - from;
-    move_words(directory, from * 2, spot.number * 2, n * 2);
+    move_words(
+        directory,
+        from * records::ENTRY_WORDS,
+        spot.number * records::ENTRY_WORDS,
+        n * records::ENTRY_WORDS,
+    );
     renumber(directory, spot, n);
 }

@@ -10,13 +10,13 @@ use lib.ListN.{length, length-append}
 use Rattle.records.specs.Questions.{qWords, qEntries}
 use Rattle.records.specs.Pieces.{Run, done, stop, item, mapRun, Verdict, fine, refused, judge}
 use Rattle.rooms.specs.Rooms.{roomOf, afterRoom}
-use Rattle.keeping.specs.Place.{fullThen, readSize, readWords}
+use Rattle.keeping.specs.Place.{Taken, fullThen, readSize, readWords}
 use Rattle.rooms.specs.declared.Room.the-variants.{Fits, Words, Entry}
 use Rattle.rooms.proofs.Judge.{judge-item}
 use Rattle.keeping.proofs.Place.{full-snoc, size-snoc, words-snoc}
 
 -- ---- how far a full reading has come
-pub record ReadFull (W D : ℕ) (v : Verdict) (whole : Run (List ℕ)) (fs : List (ℕ × List ℕ)) (r : Run (List ℕ)) (i pos at : ℕ) : Type 0 where
+pub record ReadFull (W D : ℕ) (v : Verdict) (whole : Run (List ℕ)) (fs : List Taken) (r : Run (List ℕ)) (i pos at : ℕ) : Type 0 where
   pub run : whole ≡ fullThen fs r
   pub verdict : v ≡ judge W D i pos at (mapRun length r)
   pub number : i ≡ length fs
@@ -27,30 +27,30 @@ pub full-first : (W D : ℕ) (whole : Run (List ℕ)) → ReadFull W D (judge W 
 unfolding fullThen readSize readWords
 full-first W D whole = record { run = refl; verdict = refl; number = refl; place = refl; first = refl }
 
-module _ {W D : ℕ} {v : Verdict} {whole : Run (List ℕ)} {fs : List (ℕ × List ℕ)} {r : Run (List ℕ)} {i pos at : ℕ} (g : ReadFull W D v whole fs r i pos at) where
-  full-turn : (e : ℕ) (ws : List ℕ) (r2 : Run (List ℕ)) → r ≡ item e ws r2 → v ≡ afterRoom (roomOf W D i at (length ws)) (pos + e) (judge W D (suc i) (pos + e) (at + length ws) (mapRun length r2))
+module _ {W D : ℕ} {v : Verdict} {whole : Run (List ℕ)} {fs : List Taken} {r : Run (List ℕ)} {i pos at : ℕ} (g : ReadFull W D v whole fs r i pos at) where
+  full-turn : (e d : ℕ) (ws : List ℕ) (r2 : Run (List ℕ)) → r ≡ item e d ws r2 → v ≡ afterRoom (roomOf W D i at (length ws)) (pos + e) (judge W D (suc i) (pos + e) (at + length ws) (mapRun length r2))
   unfolding mapRun
-  full-turn e ws r2 h = g .verdict ∙ rw h (judge-item W D i at (length ws) pos e (mapRun length r2))
+  full-turn e d ws r2 h = g .verdict ∙ rw h (judge-item W D i at (length ws) pos e d (mapRun length r2))
 
-  pub full-more : (e : ℕ) (ws : List ℕ) (r2 : Run (List ℕ)) → r ≡ item e ws r2 → roomOf W D i at (length ws) ≡ Fits
-      → ReadFull W D v whole (fs ++ ((e, ws) ∷ [])) r2 (i + 1) (pos + e) (at + length ws)
+  pub full-more : (e d : ℕ) (ws : List ℕ) (r2 : Run (List ℕ)) → r ≡ item e d ws r2 → roomOf W D i at (length ws) ≡ Fits
+      → ReadFull W D v whole (fs ++ ((e, d, ws) ∷ [])) r2 (i + 1) (pos + e) (at + length ws)
   unfolding afterRoom
-  full-more e ws r2 h f =
+  full-more e d ws r2 h f =
       record {
-        run = g .run ∙ ap (fullThen fs) h ∙ full-snoc fs e ws r2;
-        verdict = full-turn e ws r2 h ∙ rw (f, add-one i);
-        number = omega (arith, g .number, length-append fs ((e, ws) ∷ []));
-        place = omega (arith, g .place, size-snoc fs e ws);
-        first = omega (arith, g .first, ap length (words-snoc fs e ws), length-append (readWords fs) ws);
+        run = g .run ∙ ap (fullThen fs) h ∙ full-snoc fs e d ws r2;
+        verdict = full-turn e d ws r2 h ∙ rw (f, add-one i);
+        number = omega (arith, g .number, length-append fs ((e, d, ws) ∷ []));
+        place = omega (arith, g .place, size-snoc fs e d ws);
+        first = omega (arith, g .first, ap length (words-snoc fs e d ws), length-append (readWords fs) ws);
       }
 
-  pub full-no-words : (e : ℕ) (ws : List ℕ) (r2 : Run (List ℕ)) → r ≡ item e ws r2 → roomOf W D i at (length ws) ≡ Words → v ≡ refused qWords (pos + e)
+  pub full-no-words : (e d : ℕ) (ws : List ℕ) (r2 : Run (List ℕ)) → r ≡ item e d ws r2 → roomOf W D i at (length ws) ≡ Words → v ≡ refused qWords (pos + e)
   unfolding afterRoom
-  full-no-words e ws r2 h f = full-turn e ws r2 h ∙ rw f
+  full-no-words e d ws r2 h f = full-turn e d ws r2 h ∙ rw f
 
-  pub full-no-entry : (e : ℕ) (ws : List ℕ) (r2 : Run (List ℕ)) → r ≡ item e ws r2 → roomOf W D i at (length ws) ≡ Entry → v ≡ refused qEntries (pos + e)
+  pub full-no-entry : (e d : ℕ) (ws : List ℕ) (r2 : Run (List ℕ)) → r ≡ item e d ws r2 → roomOf W D i at (length ws) ≡ Entry → v ≡ refused qEntries (pos + e)
   unfolding afterRoom
-  full-no-entry e ws r2 h f = full-turn e ws r2 h ∙ rw f
+  full-no-entry e d ws r2 h f = full-turn e d ws r2 h ∙ rw f
 
   pub full-refuses : (q p : ℕ) → r ≡ stop q p → v ≡ refused q (pos + p)
   unfolding mapRun judge

@@ -20,17 +20,17 @@ pub enum Written {
     Refused(u64, u64),
 }
 
-// The blocks and the tail, behind a head that takes so much.
+// The blocks and the tail, behind the head: the first of them stands there.
 fn read_blocks(
     classes: &[u8; 256],
     text: &[u8],
     words: &mut [u64],
     directory: &mut [u64],
-    head: Size,
+    first: Spot,
 ) -> Written
     requires { ⌜ Classes (now classes) ⌝ }
     requires { ⌜ length (now text) ≤ textLimit ⌝ }
-    requires { ⌜ Come (now text) (length (now words)) (length (now directory)) 1 (head .bytes) (head .words) (now words) (now directory) ⌝ }
+    requires { ⌜ Come (now text) (length (now words)) (length (now directory)) (first .number) (first .pos) (first .word) (first .counter) (now words) (now directory) ⌝ }
     ensures { λ r. ⌜ Ended (now (text .entry)) (length (now (words .entry))) (length (now (directory .entry))) (now (words .exit)) (now (directory .exit)) r ⌝ }
 {
     let to = words.len();
@@ -38,11 +38,17 @@ fn read_blocks(
         words: to,
         directory: directory.len(),
     };
-    let mut number: usize = 1;
-    let mut pos = head.bytes;
-    let mut word = head.words;
+    let mut number = first.number;
+    let mut pos = first.pos;
+    let mut word = first.word;
+    let mut counter = first.counter;
     loop {
-        let spot = Spot { number, pos, word };
+        let spot = Spot {
+            number,
+            pos,
+            word,
+            counter,
+        };
         match block_in(classes, text, words, spot, to) {
             Piece::Refused(q, p) => return Written::Refused(q, pos as u64 + p),
             Piece::Tail(bytes) => match ask(lent, spot, Size { bytes, words: 0 }) {
@@ -52,13 +58,14 @@ fn read_blocks(
                     return Written::All(number + 1, word);
                 }
             },
-            Piece::Read(bytes, n) => match ask(lent, spot, Size { bytes, words: n }) {
+            Piece::Read(bytes, n, behind) => match ask(lent, spot, Size { bytes, words: n }) {
                 Verdict::Refused(q, p) => return Written::Refused(q, p),
                 Verdict::Fine => {
                     put_entry(directory, spot, Size { bytes, words: n });
                     number += 1;
                     pos += bytes;
                     word += n;
+                    counter = behind;
                 }
             },
         }
@@ -85,15 +92,22 @@ pub fn read_pieces(
         number: 0,
         pos: 0,
         word: 0,
+        counter: 0,
     };
     match head_in(classes, text, words, 0, to) {
         Piece::Refused(q, p) => Written::Refused(q, p),
         Piece::Tail(_) => Written::Refused(0, 0),
-        Piece::Read(bytes, n) => match ask(lent, start, Size { bytes, words: n }) {
+        Piece::Read(bytes, n, behind) => match ask(lent, start, Size { bytes, words: n }) {
             Verdict::Refused(q, p) => Written::Refused(q, p),
             Verdict::Fine => {
                 put_entry(directory, start, Size { bytes, words: n });
-                read_blocks(classes, text, words, directory, Size { bytes, words: n })
+                let first = Spot {
+                    number: 1,
+                    pos: bytes,
+                    word: n,
+                    counter: behind,
+                };
+                read_blocks(classes, text, words, directory, first)
             }
         },
     }

@@ -6,11 +6,11 @@ use Rattle.records.specs.Pieces.{HeadRead, BlockRead, full, reread, Left, Again
 use Rattle.records.specs.Piece.{headRead, blockRead}
 use Rattle.grammar.specs.Body.{parseBlock, parseHead}
 
--- What reading at a piece's start gives.
+-- What reading at a piece's start gives; of a block or the tail, by the counter there.
 unfoldable pub headAt : List ℕ → HeadRead
 headAt = headRead parseHead
 
-unfoldable pub blockAt : List ℕ → BlockRead
+unfoldable pub blockAt : ℕ → List ℕ → BlockRead
 blockAt = blockRead parseBlock
 
 -- The full reading: what it leaves in arrays of these lengths, and its answer.

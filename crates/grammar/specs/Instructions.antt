@@ -2,7 +2,7 @@
 -- A definition is named as its Rust function, in the other spelling: `parse_bin` is `parseBin`.
 -- 01: "Record words": the destination is the first payload word, zero when absent; no terminator has one.
 -- Assumes nothing.
-use mathlib.Core.Bool.{true, false}
+use mathlib.Core.Bool.{Bool, true, false}
 use mathlib.Core.List.{List, [], _∷_, _++_}
 use mathlib.Core.Option.{Option, none, some}
 use Prim.Native.Nat.{ℕ, zero, suc, _+_, _*_}
@@ -11,12 +11,13 @@ use lib.ListN.{length, getD}
 use Rattle.program.specs.Bytes.{bytes, byte, table}
 use Rattle.program.specs.Prog.{Prog, ret, _>>=_}
 use Rattle.records.specs.Words.{header, node}
-use Rattle.records.specs.Kinds.{kind, Func, IntConst, Bin, FBin, FNeg, Conv, ICmp, FCmp, Select, Load, Store, Alloca, Gep, Phi, Call, Freeze, AtomicLoad, AtomicStore, AtomicRmw, Cmpxchg, ExtractValue, Fence, Ret, Br, Switch, Unreachable, Name}
+use Rattle.records.specs.Kinds.{kind, Void, Func, IntConst, Bin, FBin, FNeg, Conv, ICmp, FCmp, Select, Load, Store, Alloca, Gep, Phi, Call, Freeze, AtomicLoad, AtomicStore, AtomicRmw, Cmpxchg, ExtractValue, Fence, Ret, Br, Switch, Unreachable, Name}
 use Rattle.records.specs.Limits.{turns, indexLimit, numberLimit, depthLimit, listDepth, listTurns}
 use Rattle.records.specs.Questions.{qToken, qType, qValue, qStatement, qOpcode, qPredicate, qTrailing, qCase, qChildren}
 use Rattle.records.specs.Details.{dNone, dCount, dAllocaAlign, dFunctionType, dCondition, dValue}
-use Rattle.grammar.specs.Lexer.{refuse, eatWs, byteIf, byteAtIf, wordIf, rankIf, tokenIf, expectToken, expectKeyword, skipKeyword, skipOne, skipAll, sameWord, rank, spelled, readWord, parseLocalName, skipParens, skipMetadataRef}
+use Rattle.grammar.specs.Lexer.{refuse, place, eatWs, byteIf, byteAtIf, wordIf, rankIf, tokenIf, expectToken, expectKeyword, skipKeyword, skipOne, skipAll, sameWord, rank, spelled, readWord, parseLocalName, skipParens, skipMetadataRef}
 use Rattle.grammar.specs.Numbers.{parseInt}
+use Rattle.grammar.specs.Counter.{Counted, counted, takesNext}
 use Rattle.grammar.specs.Attributes.{skipAttrs, skipCallCconv, skipArithFlags, skipFastMathFlags, convFlags}
 use Rattle.grammar.specs.Types.{Listed, listed, countOf, dotsOf, wordsOf, TypeOut, plain, opened, child, whole, typeChild, dotsList, parseTypeList, parseType}
 use Rattle.grammar.specs.Values.{pairChild, parseGepFlags, binOps, parseValue, parseTypedVal}
@@ -345,6 +346,30 @@ parseCall dest = do
 unfoldable pub parseTailCall : ℕ → Prog (List ℕ)
 parseTailCall dest = expectKeyword (bytes "call") >>= λ _. parseCall dest
 
+-- is it void?
+unfoldable pub isVoid : TypeOut → Bool
+isVoid (plain t) = eqb (getD t 0 0) (header (kind Void) dNone 0 1)
+isVoid (opened t l j) = eqb (getD t 0 0) (header (kind Void) dNone 0 1)
+
+-- behind a call without a destination, whose type is t: M-106, "a non-void call without a destination" takes the next number
+unfoldable pub numberedCall : ℕ → TypeOut → List ℕ → Prog (Counted (List ℕ))
+numberedCall c t ws = do
+  j ← place
+  d ← elim (isVoid t) [ true ↦ ret c | false ↦ takesNext j c ]
+  ret (counted d ws)
+
+-- `parseCall` without a destination, by the counter
+unfoldable pub parsePlainCall : ℕ → Prog (Counted (List ℕ))
+parsePlainCall c = do
+  _ ← skipCallCconv
+  _ ← skipAttrs
+  t ← parseType depthLimit
+  ws ← callOf 0 t
+  numberedCall c t ws
+
+unfoldable pub parsePlainTailCall : ℕ → Prog (Counted (List ℕ))
+parsePlainTailCall c = expectKeyword (bytes "call") >>= λ _. parsePlainCall c
+
 -- Terminators.
 unfoldable pub parseRet : Prog (List ℕ)
 parseRet = do
@@ -437,11 +462,15 @@ valueInst dest w =
     (among w tailWords (λ r. parseTailCall dest)
     (refuse qOpcode)))))))))))))))))
 
--- the instructions without a destination, behind their word
-unfoldable pub plainInst : List ℕ → Prog (List ℕ) → Prog (List ℕ)
-plainInst w g =
-    isWordThen w (bytes "store") parseStore
-    (isWordThen w (bytes "fence") parseFence
-    (isWordThen w (bytes "call") (parseCall 0)
-    (among w tailWords (λ r. parseTailCall 0)
+-- no number is taken
+unfoldable pub uncounted : ℕ → Prog (List ℕ) → Prog (Counted (List ℕ))
+uncounted c p = p >>= λ ws. ret (counted c ws)
+
+-- the instructions without a destination, behind their word; c is the counter
+unfoldable pub plainInst : ℕ → List ℕ → Prog (Counted (List ℕ)) → Prog (Counted (List ℕ))
+plainInst c w g =
+    isWordThen w (bytes "store") (uncounted c parseStore)
+    (isWordThen w (bytes "fence") (uncounted c parseFence)
+    (isWordThen w (bytes "call") (parsePlainCall c)
+    (among w tailWords (λ r. parsePlainTailCall c)
     g)))

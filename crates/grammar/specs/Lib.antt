@@ -1,5 +1,6 @@
 pub mod Lexer
 pub mod Numbers
+pub mod Counter
 pub mod Powers
 pub mod Attributes
 pub mod Types
@@ -7,4 +8,5 @@ pub mod Values
 pub mod Instructions
 pub mod Body
 pub mod Function
+pub mod Numbered
 pub mod Readings

@@ -12,12 +12,12 @@ use Rattle.directory.specs.Stretch.{Stands, Stops, Counts}
 
 -- What reading the head at the start of s gave.
 abbrev pub HeadIn : (s : List ℕ) (word to : ℕ) (words words′ : List ℕ) → Piece → Type 0
-HeadIn s word to words words′ (Read e n) = Stands (λ ws. headAt s ≡ head e ws) n word to words words′
+HeadIn s word to words words′ (Read e n d) = Stands (λ ws. headAt s ≡ head e d ws) n word to words words′
 HeadIn s word to words words′ (Tail e) = ⊥
 HeadIn s word to words words′ (Refused q p) = Stops (headAt s ≡ badHead q p) p s × (length words′ ≡ length words)
 
 -- The same, where the words are only counted.
 abbrev pub HeadDry : List ℕ → Piece → Type 0
-HeadDry s (Read e n) = Counts (λ ws. headAt s ≡ head e ws) n
+HeadDry s (Read e n d) = Counts (λ ws. headAt s ≡ head e d ws) n
 HeadDry s (Tail e) = ⊥
 HeadDry s (Refused q p) = Stops (headAt s ≡ badHead q p) p s

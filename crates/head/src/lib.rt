@@ -1,26 +1,33 @@
 // The reader of the head (parser.rs, `parse_param_list` and the front of `parse_define`).
+use counters::Counter;
 use directory::pieces::Piece;
 use lexer::Cursor;
 use lexer::Parsed;
-use types::Listed;
 ghost use mathlib.Core.Path.{_≡_};
 ghost use mathlib.Core.List.{[]};
 ghost use Prim.Native.Nat.{ℕ, _≤_, _<_};
 ghost use lib.ListN.{length};
 ghost use Rattle.records.specs.Limits.{textLimit};
-ghost use Rattle.grammar.specs.Types.{listed};
 ghost use Rattle.grammar.specs.Body.{parseParam, parseParamList, parseHead};
 ghost use Rattle.grammar.specs.Function.{headAt};
 ghost use Rattle.lexer.specs.Table.{Classes};
 ghost use Rattle.lexer.specs.Reads.{Leads, made};
 ghost use Rattle.directory.specs.Piece.{HeadIs};
 ghost use Rattle.head.specs.Part.{HeadIn, HeadDry};
-ghost use Rattle.head.specs.Reading.{parameter, shuts};
+ghost use Rattle.head.specs.Reading.{params, parameter, shuts};
 
-// A parameter: a type, attributes, and a name where one stands. The name's word stands before the type's.
-fn parse_param(classes: &[u8; 256], text: &[u8], words: &mut [u64], p: Parsed) -> Parsed
+// Where the reader is behind the parameters: their number and the return type's, whether `...` ends them, and the counter.
+pub struct Params {
+    pub p: Parsed,
+    pub n: u16,
+    pub dots: u8,
+    pub c: u64,
+}
+
+// A parameter: a type, attributes, and a name where one stands; without one it takes the next number. The name's word stands before the type's.
+fn parse_param(classes: &[u8; 256], text: &[u8], words: &mut [u64], p: Parsed, c: u64) -> Counter
     requires { ⌜ Classes (now classes) ⌝ }
-    ensures { λ r. ⌜ ((q : ℕ) → Leads (parseParam q) 2 [] (parameter q (now (text .entry)) p) (now (text .entry)) p p (now (words .entry)) r (now (words .exit))) ⌝ }
+    ensures { λ r. ⌜ ((q : ℕ) → Leads (parseParam q c) 2 [] (parameter q (r .c) (now (text .entry)) p) (now (text .entry)) p p (now (words .entry)) (r .p) (now (words .exit))) ⌝ }
 {
     let q = writer::push(words, p, 0);
     let q1 = writer::push(words, q, 0);
@@ -29,54 +36,74 @@ fn parse_param(classes: &[u8; 256], text: &[u8], words: &mut [u64], p: Parsed) -
     let q4 = lexer::eat_ws(classes, text, q3);
     if lexer::looks(text, q4, b'%') {
         let q5 = lexer::pass(text, q4, 1);
-        let n = names::name_word(classes, text, q5);
+        let n = counters::counted_name(classes, text, q5, c);
         let q6 = n.p;
         let q7 = writer::patch(words, p, q6, 1, n.v);
-        return writer::close(words, p, q7, records::K_PARAM, records::D_NAMED, 1);
+        let q8 = writer::close(words, p, q7, records::K_PARAM, records::D_NAMED, 1);
+        return Counter { p: q8, c: n.c };
     }
-    writer::close(words, p, q4, records::K_PARAM, records::D_NONE, 1)
+    let at = lexer::place(q4);
+    let d = counters::take_next(q4, at, c);
+    let q9 = d.p;
+    let q10 = writer::close(words, p, q9, records::K_PARAM, records::D_NONE, 1);
+    Counter { p: q10, c: d.c }
 }
 
 // Parameters, `...` in the last place, through the parenthesis (`parse_param_list`). The return type is a child before them.
-fn parse_param_list(classes: &[u8; 256], text: &[u8], words: &mut [u64], p: Parsed) -> Listed
+fn parse_param_list(classes: &[u8; 256], text: &[u8], words: &mut [u64], p: Parsed) -> Params
     requires { ⌜ Classes (now classes) ⌝ }
-    ensures { λ r. ⌜ Leads parseParamList 2 [] (made (listed (r .n) (r .dots)) (now (text .entry)) p) (now (text .entry)) p p (now (words .entry)) (r .p) (now (words .exit)) × (r .dots ≤ 1) ⌝ }
+    ensures { λ r. ⌜ Leads parseParamList 2 [] (made (params (r .c) (r .n) (r .dots)) (now (text .entry)) p) (now (text .entry)) p p (now (words .entry)) (r .p) (now (words .exit)) × (r .dots ≤ 1) ⌝ }
 {
     let mut q = lexer::eat_ws(classes, text, p);
     if lexer::looks(text, q, b')') {
         let q1 = lexer::pass(text, q, 1);
-        return Listed {
+        return Params {
             p: q1,
             n: 1,
             dots: 0,
+            c: 0,
         };
     }
     let mut left: usize = records::LIST_TURNS;
     let mut n: u16 = 1;
+    let mut c: u64 = 0;
     while 0 < left {
         let r = lexer::eat_ws(classes, text, q);
         if lexer::looks(text, r, b'.') {
             let r1 = names::three_dots(text, r, records::Q_TYPE);
             let r2 = lexer::expect_token(classes, text, r1, b')');
-            return Listed {
+            return Params {
                 p: r2,
                 n,
                 dots: records::D_DOTS,
+                c,
             };
         }
-        let r3 = parse_param(classes, text, words, r);
+        let x = parse_param(classes, text, words, r, c);
+        let r3 = x.p;
         let r4 = lexer::count_child(r3, n);
         let e = lexer::comma_or(classes, text, r4, b')');
         n = types::one_more(n);
+        c = x.c;
         q = e.p;
         if e.more {
             left -= 1;
         } else {
-            return Listed { p: q, n, dots: 0 };
+            return Params {
+                p: q,
+                n,
+                dots: 0,
+                c,
+            };
         }
     }
     let q1 = lexer::refuse(q, records::Q_CHILDREN);
-    Listed { p: q1, n, dots: 0 }
+    Params {
+        p: q1,
+        n,
+        dots: 0,
+        c,
+    }
 }
 
 // A linkage's rank as a byte.
@@ -89,10 +116,10 @@ fn rank_byte(rank: usize) -> u8
     records::NO_LINKAGE
 }
 
-// The head, through the `{`. The name's word stands before the type's, so its slot is filled behind the type.
-fn head_node(classes: &[u8; 256], text: &[u8], words: &mut [u64], p: Parsed) -> Parsed
+// The head, through the `{`, and the counter behind it. The name's word stands before the type's, so its slot is filled behind the type.
+fn head_node(classes: &[u8; 256], text: &[u8], words: &mut [u64], p: Parsed) -> Counter
     requires { ⌜ Classes (now classes) ⌝ }
-    ensures { λ r. ⌜ Leads parseHead 2 [] (shuts (now (text .entry)) p) (now (text .entry)) p p (now (words .entry)) r (now (words .exit)) ⌝ }
+    ensures { λ r. ⌜ Leads parseHead 2 [] (shuts (r .c) (now (text .entry)) p) (now (text .entry)) p p (now (words .entry)) (r .p) (now (words .exit)) ⌝ }
 {
     let mut q = writer::push(words, p, 0);
     q = writer::push(words, q, 0);
@@ -115,9 +142,11 @@ fn head_node(classes: &[u8; 256], text: &[u8], words: &mut [u64], p: Parsed) -> 
     if lexer::looks(text, q, b'{') {
         q = lexer::pass(text, q, 1);
         let detail = linkage + records::D_VARARGS * dots;
-        return writer::close(words, p, q, records::K_HEAD, detail, l.n);
+        q = writer::close(words, p, q, records::K_HEAD, detail, l.n);
+        return Counter { p: q, c: l.c };
     }
-    lexer::refuse(q, records::Q_TOKEN)
+    q = lexer::refuse(q, records::Q_TOKEN);
+    Counter { p: q, c: 0 }
 }
 
 // The head at the start of a text, its words at the start of `words`, as far as these reach.
@@ -126,8 +155,9 @@ pub fn parse_head(classes: &[u8; 256], text: &[u8], words: &mut [u64]) -> Piece
     ensures { λ r. ⌜ HeadIs (headAt (now (text .entry))) r (now (words .exit)) × (length (now (words .exit)) ≡ length (now (words .entry))) ⌝ }
 {
     let p = Parsed::Ok(Cursor { at: 0, w: 0 });
-    let q = head_node(classes, text, words, p);
-    closing::piece_of(q)
+    let h = head_node(classes, text, words, p);
+    let q = h.p;
+    closing::piece_of(q, h.c)
 }
 
 // The head. Its words stand from `word` on, as far as `to`.

@@ -1,7 +1,7 @@
 -- The pieces kept in front, one by one.
 -- `keptFront` takes one piece at a time; where the word behind a block ends decides whether its end is settled.
 -- Assumes nothing.
-use mathlib.Core.Path.{_≡_, refl, sym, ap, _∙_, subst}
+use mathlib.Core.Path.{_≡_, refl, sym, ap, _∙_}
 use mathlib.Core.Bool.{Bool, true, false, _&&_, not}
 use mathlib.Core.List.{List, [], _∷_}
 use Prim.Native.Nat.{ℕ, zero, suc, _+_, _-_, _*_, _≤_, _<_, max}
@@ -11,56 +11,69 @@ use native.Mathlib.Omega.{arith}
 use lib.Dec.{leb, ltb, eqb}
 use lib.ListN.{length, take, drop, getD, length-drop, drop-of-length-le}
 use lib.Seq.{drop-drop, length-take-le, getD-take}
-use borrow.Author.Tests.{lt-ltb, le-ltb, eq-eqb, ne-eqb, leb-true, leb-false, ltb-true, ltb-false}
+use borrow.Author.Tests.{lt-ltb, le-ltb, eq-eqb, ne-eqb, eqb-true, eqb-false, leb-true, leb-false, ltb-true, ltb-false}
 use Rattle.program.specs.Class.{isWord}
 use Rattle.program.specs.Prog.{ends}
+use Rattle.records.specs.Limits.{counterLimit, entryWords}
 use Rattle.records.specs.Words.{hi, lo}
-use Rattle.records.specs.Pieces.{Old, old, oldSizes, oldWords, leads, addrspace, closes, keptRest, keptFront}
-use Rattle.directory.specs.Olds.{oldsOf, Joined, WordEnd, FrontIs}
+use Rattle.records.specs.Pieces.{Old, old, oldSizes, oldWords, firstCounter, leads, addrspace, closes, keptRest, keptFront}
+use Rattle.directory.specs.Olds.{oldsOf, begins, Joined, Chained, WordEnd, FrontIs}
 use Rattle.program.specs.Lists.{drop-next}
-use Rattle.directory.proofs.Links.{sizeAt, firstAt, countAt, olds-next, olds-take, olds-length, sizes-step, words-step}
+use Rattle.directory.proofs.Links.{sizeAt, firstAt, countAt, counterAt, olds-next, olds-length, sizes-step, words-step}
 
 -- ---- where the first pieces end
-pub joined-less : (n m : ℕ) (dir : List ℕ) → m ≤ n → Joined n dir → Joined m dir
-joined-less n m dir h j =
-    record {
-      inside = omega (arith, j .inside);
-      start = λ k l. j .start k (omega arith) ∙ ap oldSizes (both k (omega arith));
-      first = λ k l. j .first k (omega arith) ∙ ap oldWords (both k (omega arith));
-    }
+module _ (n c : ℕ) (dir : List ℕ) (j : Joined n dir) where
+  module _ (h : c < n) where
+    here : drop c (oldsOf n dir) ≡ old (sizeAt dir c) (firstAt dir c) (countAt dir c) (counterAt dir c) ∷ drop (suc c) (oldsOf n dir)
+    here = olds-next n c dir (j .inside) h
+
+    last-size : hi (getD dir (c * entryWords) 0) + lo (getD dir (c * entryWords) 0) ≡ oldSizes (take (suc c) (oldsOf n dir))
+    last-size = rw (j .start c h) (sym (sizes-step c (oldsOf n dir) (sizeAt dir c) (firstAt dir c) (countAt dir c) (counterAt dir c) (drop (suc c) (oldsOf n dir)) here))
+
+    last-words : hi (getD dir (c * entryWords + 1) 0) + lo (getD dir (c * entryWords + 1) 0) ≡ oldWords (take (suc c) (oldsOf n dir))
+    last-words = rw (j .first c h) (sym (words-step c (oldsOf n dir) (sizeAt dir c) (firstAt dir c) (countAt dir c) (counterAt dir c) (drop (suc c) (oldsOf n dir)) here))
+
+module _ (n c : ℕ) (dir : List ℕ) (h : 0 < c) (k : c ≤ n) (j : Joined n dir) where
+  before : suc (c - 1) ≡ c
+  before = omega arith
+
+  pub end-size : hi (getD dir ((c - 1) * entryWords) 0) + lo (getD dir ((c - 1) * entryWords) 0) ≡ oldSizes (take c (oldsOf n dir))
+  end-size = last-size n (c - 1) dir j (omega arith) ∙ ap (λ (m : ℕ). oldSizes (take m (oldsOf n dir))) before
+
+  pub end-words : hi (getD dir ((c - 1) * entryWords + 1) 0) + lo (getD dir ((c - 1) * entryWords + 1) 0) ≡ oldWords (take c (oldsOf n dir))
+  end-words = last-words n (c - 1) dir j (omega arith) ∙ ap (λ (m : ℕ). oldWords (take m (oldsOf n dir))) before
+
+pub no-size : (os : List Old) → 0 ≡ oldSizes (take 0 os)
+unfolding oldSizes
+no-size os = refl
+
+pub no-words : (os : List Old) → 0 ≡ oldWords (take 0 os)
+unfolding oldWords
+no-words os = refl
+
+-- the counter with which reading begins there: at the head, behind the last piece, and between
+pub begins-head : (os : List Old) → 0 ≡ begins 0 os
+unfolding begins
+begins-head os = refl
+
+pub begins-end : (n c : ℕ) (dir : List ℕ) → Joined n dir → n ≤ c → 0 ≡ begins c (oldsOf n dir)
+unfolding begins firstCounter
+begins-end n zero dir j h = refl
+begins-end n (suc c) dir j h = sym (rw (drop-of-length-le (oldsOf n dir) {i = suc c} (omega (arith, olds-length n dir (j .inside)))))
+
+pub begins-at : (n c : ℕ) (dir : List ℕ) → Joined n dir → (c ≡ 0 → ⊥) → c < n → getD dir (c * entryWords + 2) 0 ≡ begins c (oldsOf n dir)
+unfolding begins
+begins-at n zero dir j h k = absurd (h refl)
+begins-at n (suc c) dir j h k = j .counter (suc c) k
+
+-- question 22 asks that it is at most 2^32
+pub begins-low : (T W n c : ℕ) (dir : List ℕ) → Chained T W n dir → begins c (oldsOf n dir) ≤ counterLimit
+begins-low T W n c dir g = go (eqb c 0) refl (ltb c n) refl
   where
-    both : (k : ℕ) → k ≤ m → take k (oldsOf n dir) ≡ take k (oldsOf m dir)
-    both k l = olds-take n k dir (omega arith) ∙ sym (olds-take m k dir l)
-
-last-size : (c : ℕ) (dir : List ℕ) → Joined (suc c) dir → hi (getD dir (c * 2) 0) + lo (getD dir (c * 2) 0) ≡ oldSizes (oldsOf (suc c) dir)
-last-size c dir j =
-    rw (j .start c (omega arith))
-    (sym (sizes-step c (oldsOf (suc c) dir) (sizeAt dir c) (firstAt dir c) (countAt dir c) (drop (suc c) (oldsOf (suc c) dir)) (olds-next (suc c) c dir (j .inside) (omega arith)))
-    ∙ ap oldSizes (olds-take (suc c) (suc c) dir (omega arith)))
-
-last-words : (c : ℕ) (dir : List ℕ) → Joined (suc c) dir → hi (getD dir (c * 2 + 1) 0) + lo (getD dir (c * 2 + 1) 0) ≡ oldWords (oldsOf (suc c) dir)
-last-words c dir j =
-    rw (j .first c (omega arith))
-    (sym (words-step c (oldsOf (suc c) dir) (sizeAt dir c) (firstAt dir c) (countAt dir c) (drop (suc c) (oldsOf (suc c) dir)) (olds-next (suc c) c dir (j .inside) (omega arith)))
-    ∙ ap oldWords (olds-take (suc c) (suc c) dir (omega arith)))
-
-pub end-size : (c : ℕ) (dir : List ℕ) → 0 < c → Joined c dir → hi (getD dir ((c - 1) * 2) 0) + lo (getD dir ((c - 1) * 2) 0) ≡ oldSizes (oldsOf c dir)
-end-size c dir h j =
-    let e : c ≡ suc (c - 1) = omega arith in
-    last-size (c - 1) dir (subst (λ (k : ℕ). Joined k dir) e j) ∙ ap (λ (k : ℕ). oldSizes (oldsOf k dir)) (sym e)
-
-pub end-words : (c : ℕ) (dir : List ℕ) → 0 < c → Joined c dir → hi (getD dir ((c - 1) * 2 + 1) 0) + lo (getD dir ((c - 1) * 2 + 1) 0) ≡ oldWords (oldsOf c dir)
-end-words c dir h j =
-    let e : c ≡ suc (c - 1) = omega arith in
-    last-words (c - 1) dir (subst (λ (k : ℕ). Joined k dir) e j) ∙ ap (λ (k : ℕ). oldWords (oldsOf k dir)) (sym e)
-
-pub no-size : (dir : List ℕ) → 0 ≡ oldSizes (oldsOf 0 dir)
-unfolding oldsOf oldSizes
-no-size dir = refl
-
-pub no-words : (dir : List ℕ) → 0 ≡ oldWords (oldsOf 0 dir)
-unfolding oldsOf oldWords
-no-words dir = refl
+    go : (a : Bool) → eqb c 0 ≡ a → (b : Bool) → ltb c n ≡ b → begins c (oldsOf n dir) ≤ counterLimit
+    go true p b q = rw (eqb-true c 0 p, ← begins-head (oldsOf n dir)) (omega arith)
+    go false p true q = rw (← begins-at n c dir (g .joined) (eqb-false c 0 p) (ltb-true c n q)) (g .low c (ltb-true c n q))
+    go false p false q = rw (← begins-end n c dir (g .joined) (ltb-false c n q)) (omega arith)
 
 -- ---- words
 ends-next : (s : List ℕ) (p : ℕ) → p < length s → isWord (getD s p 0) ≡ true → ends (drop p s) ≡ ends (drop (p + 1) s)
@@ -117,8 +130,8 @@ module _ (text : List ℕ) (a : ℕ) (h : a ≤ length text) where
         record { behind = omega (arith, g .behind); inside = omega arith; wordy = λ k x y. go k x y (eqb k i) refl }
       where
         go : (k : ℕ) → from ≤ k → k < i + 1 → (b : Bool) → eqb k i ≡ b → isWord (getD (take a text) k 0) ≡ true
-        go k x y true q = rw (borrow.Author.Tests.eqb-true k i q, front-byte i l) t
-        go k x y false q = g .wordy k x (omega (arith, borrow.Author.Tests.eqb-false k i q))
+        go k x y true q = rw (eqb-true k i q, front-byte i l) t
+        go k x y false q = g .wordy k x (omega (arith, eqb-false k i q))
 
     pub found : i < a → isWord (getD text i 0) ≡ false → WordEnd (take a text) from i
     found l t = record { behind = g .behind; inside = rw front-length (g .inside); wordy = g .wordy; stops = λ m. rw (front-byte i l) t }
@@ -213,34 +226,34 @@ unfolding ends
 far s p h = rw (drop-of-length-le s h)
 
 -- ---- the rule, piece by piece
-front-head : (s : List ℕ) (os : List Old) (e f n : ℕ) (ps : List Old) → os ≡ old e f n ∷ ps → e < length s → keptFront s os ≡ 1 + keptRest (drop e s) ps
+front-head : (s : List ℕ) (os : List Old) (e f n d : ℕ) (ps : List Old) → os ≡ old e f n d ∷ ps → e < length s → keptFront s os ≡ 1 + keptRest (drop e s) ps
 unfolding keptFront
-front-head s os e f n ps h l = let t : ltb e (length s) ≡ true = lt-ltb _ _ l in rw (h, keptFront, t, native.Mathlib.Numerals.one-add (keptRest (drop e s) ps))
+front-head s os e f n d ps h l = let t : ltb e (length s) ≡ true = lt-ltb _ _ l in rw (h, keptFront, t, native.Mathlib.Numerals.one-add (keptRest (drop e s) ps))
 
-front-no-head : (s : List ℕ) (os : List Old) (e f n : ℕ) (ps : List Old) → os ≡ old e f n ∷ ps → length s ≤ e → keptFront s os ≡ 0
+front-no-head : (s : List ℕ) (os : List Old) (e f n d : ℕ) (ps : List Old) → os ≡ old e f n d ∷ ps → length s ≤ e → keptFront s os ≡ 0
 unfolding keptFront
-front-no-head s os e f n ps h l = let t : ltb e (length s) ≡ false = le-ltb _ _ l in rw (h, keptFront, t)
+front-no-head s os e f n d ps h l = let t : ltb e (length s) ≡ false = le-ltb _ _ l in rw (h, keptFront, t)
 
-block-yes : (s : List ℕ) (e f n : ℕ) (o : Old) (ps : List Old) → closes (drop e s) ≡ true → keptRest s (old e f n ∷ o ∷ ps) ≡ suc (keptRest (drop e s) (o ∷ ps))
+block-yes : (s : List ℕ) (e f n d : ℕ) (o : Old) (ps : List Old) → closes (drop e s) ≡ true → keptRest s (old e f n d ∷ o ∷ ps) ≡ suc (keptRest (drop e s) (o ∷ ps))
 unfolding keptRest
-block-yes s e f n o ps t = rw (keptRest, t)
+block-yes s e f n d o ps t = rw (keptRest, t)
 
-rest-block : (s : List ℕ) (pos : ℕ) (qs : List Old) (e f n : ℕ) (o : Old) (ps : List Old) → qs ≡ old e f n ∷ o ∷ ps → closes (drop (pos + e) s) ≡ true → keptRest (drop pos s) qs ≡ suc (keptRest (drop (pos + e) s) (o ∷ ps))
-rest-block s pos qs e f n o ps h t = rw (h, block-yes (drop pos s) e f n o ps (rw (drop-drop e pos s) t), drop-drop e pos s)
+rest-block : (s : List ℕ) (pos : ℕ) (qs : List Old) (e f n d : ℕ) (o : Old) (ps : List Old) → qs ≡ old e f n d ∷ o ∷ ps → closes (drop (pos + e) s) ≡ true → keptRest (drop pos s) qs ≡ suc (keptRest (drop (pos + e) s) (o ∷ ps))
+rest-block s pos qs e f n d o ps h t = rw (h, block-yes (drop pos s) e f n d o ps (rw (drop-drop e pos s) t), drop-drop e pos s)
 
-rest-no-block : (s : List ℕ) (pos : ℕ) (qs : List Old) (e f n : ℕ) (o : Old) (ps : List Old) → qs ≡ old e f n ∷ o ∷ ps → closes (drop (pos + e) s) ≡ false → keptRest (drop pos s) qs ≡ 0
+rest-no-block : (s : List ℕ) (pos : ℕ) (qs : List Old) (e f n d : ℕ) (o : Old) (ps : List Old) → qs ≡ old e f n d ∷ o ∷ ps → closes (drop (pos + e) s) ≡ false → keptRest (drop pos s) qs ≡ 0
 unfolding keptRest
-rest-no-block s pos qs e f n o ps h t = rw (h, keptRest, drop-drop e pos s, t)
+rest-no-block s pos qs e f n d o ps h t = rw (h, keptRest, drop-drop e pos s, t)
 
-rest-tail : (s : List ℕ) (pos : ℕ) (qs : List Old) (e f n : ℕ) → qs ≡ old e f n ∷ [] → pos + e < length s → keptRest (drop pos s) qs ≡ 1
+rest-tail : (s : List ℕ) (pos : ℕ) (qs : List Old) (e f n d : ℕ) → qs ≡ old e f n d ∷ [] → pos + e < length s → keptRest (drop pos s) qs ≡ 1
 unfolding keptRest
-rest-tail s pos qs e f n h l =
+rest-tail s pos qs e f n d h l =
     let k : e < length (drop pos s) = omega (arith, length-drop pos s) in
     let t : ltb e (length (drop pos s)) ≡ true = lt-ltb e (length (drop pos s)) k in rw (h, keptRest, t)
 
-rest-no-tail : (s : List ℕ) (pos : ℕ) (qs : List Old) (e f n : ℕ) → qs ≡ old e f n ∷ [] → pos ≤ length s → length s ≤ pos + e → keptRest (drop pos s) qs ≡ 0
+rest-no-tail : (s : List ℕ) (pos : ℕ) (qs : List Old) (e f n d : ℕ) → qs ≡ old e f n d ∷ [] → pos ≤ length s → length s ≤ pos + e → keptRest (drop pos s) qs ≡ 0
 unfolding keptRest
-rest-no-tail s pos qs e f n h b l =
+rest-no-tail s pos qs e f n d h b l =
     let k : length (drop pos s) ≤ e = omega (arith, length-drop pos s) in
     let t : ltb e (length (drop pos s)) ≡ false = le-ltb e (length (drop pos s)) k in rw (h, keptRest, t)
 
@@ -254,15 +267,15 @@ module _ (s : List ℕ) (n : ℕ) (dir : List ℕ) where
     pub wordy : (k : ℕ) → pos ≤ k → k < w → isWord (getD s k 0) ≡ true
     pub rest : keptFront s (oldsOf n dir) ≡ i + keptRest (drop pos s) (drop i (oldsOf n dir))
 
-  module _ (two : 2 ≤ n) (inside : n * 2 ≤ length dir) where
-    piece : (i : ℕ) → i < n → drop i (oldsOf n dir) ≡ old (sizeAt dir i) (firstAt dir i) (countAt dir i) ∷ drop (suc i) (oldsOf n dir)
+  module _ (two : 2 ≤ n) (inside : n * entryWords ≤ length dir) where
+    piece : (i : ℕ) → i < n → drop i (oldsOf n dir) ≡ old (sizeAt dir i) (firstAt dir i) (countAt dir i) (counterAt dir i) ∷ drop (suc i) (oldsOf n dir)
     piece i h = olds-next n i dir inside h
 
-    pieces : (i : ℕ) → suc i < n → drop i (oldsOf n dir) ≡ old (sizeAt dir i) (firstAt dir i) (countAt dir i) ∷ old (sizeAt dir (suc i)) (firstAt dir (suc i)) (countAt dir (suc i)) ∷ drop (suc (suc i)) (oldsOf n dir)
-    pieces i h = piece i (omega arith) ∙ ap {B = List Old} (λ t. old (sizeAt dir i) (firstAt dir i) (countAt dir i) ∷ t) (piece (suc i) h)
+    pieces : (i : ℕ) → suc i < n → drop i (oldsOf n dir) ≡ old (sizeAt dir i) (firstAt dir i) (countAt dir i) (counterAt dir i) ∷ old (sizeAt dir (suc i)) (firstAt dir (suc i)) (countAt dir (suc i)) (counterAt dir (suc i)) ∷ drop (suc (suc i)) (oldsOf n dir)
+    pieces i h = piece i (omega arith) ∙ ap {B = List Old} (λ t. old (sizeAt dir i) (firstAt dir i) (countAt dir i) (counterAt dir i) ∷ t) (piece (suc i) h)
 
     pub none-kept : length s ≤ lo (getD dir 0 0) → 0 ≡ keptFront s (oldsOf n dir)
-    none-kept h = sym (front-no-head s (oldsOf n dir) (sizeAt dir 0) (firstAt dir 0) (countAt dir 0) (drop 1 (oldsOf n dir)) (piece 0 (omega arith)) h)
+    none-kept h = sym (front-no-head s (oldsOf n dir) (sizeAt dir 0) (firstAt dir 0) (countAt dir 0) (counterAt dir 0) (drop 1 (oldsOf n dir)) (piece 0 (omega arith)) h)
 
     pub head-kept : lo (getD dir 0 0) < length s → Going 1 (lo (getD dir 0 0)) 0
     head-kept h =
@@ -272,7 +285,7 @@ module _ (s : List ℕ) (n : ℕ) (dir : List ℕ) where
           below = omega arith;
           w-in = omega arith;
           wordy = λ k a b. absurd (omega arith);
-          rest = front-head s (oldsOf n dir) (sizeAt dir 0) (firstAt dir 0) (countAt dir 0) (drop 1 (oldsOf n dir)) (piece 0 (omega arith)) h;
+          rest = front-head s (oldsOf n dir) (sizeAt dir 0) (firstAt dir 0) (countAt dir 0) (counterAt dir 0) (drop 1 (oldsOf n dir)) (piece 0 (omega arith)) h;
         }
 
     module _ (i pos w : ℕ) (g : Going i pos w) where
@@ -280,26 +293,26 @@ module _ (s : List ℕ) (n : ℕ) (dir : List ℕ) where
       stops z = sym (g .rest ∙ rw z (add-zero i))
 
       -- a block is not kept: its end is not below, or the word there is not, or is `addrspace`
-      pub block-out : i + 1 < n → length s ≤ pos + lo (getD dir (i * 2) 0) → i ≡ keptFront s (oldsOf n dir)
-      block-out h l = stops (rest-no-block s pos (drop i (oldsOf n dir)) (sizeAt dir i) (firstAt dir i) (countAt dir i) (old (sizeAt dir (suc i)) (firstAt dir (suc i)) (countAt dir (suc i))) (drop (suc (suc i)) (oldsOf n dir)) (pieces i (omega arith))
-          (closes-out s (pos + lo (getD dir (i * 2) 0)) (far s (pos + lo (getD dir (i * 2) 0)) l)))
+      pub block-out : i + 1 < n → length s ≤ pos + lo (getD dir (i * entryWords) 0) → i ≡ keptFront s (oldsOf n dir)
+      block-out h l = stops (rest-no-block s pos (drop i (oldsOf n dir)) (sizeAt dir i) (firstAt dir i) (countAt dir i) (counterAt dir i) (old (sizeAt dir (suc i)) (firstAt dir (suc i)) (countAt dir (suc i)) (counterAt dir (suc i))) (drop (suc (suc i)) (oldsOf n dir)) (pieces i (omega arith))
+          (closes-out s (pos + lo (getD dir (i * entryWords) 0)) (far s (pos + lo (getD dir (i * entryWords) 0)) l)))
 
-      pub block-word : i + 1 < n → (r : ℕ) → WordEnd s (pos + lo (getD dir (i * 2) 0)) r → length s ≤ r → i ≡ keptFront s (oldsOf n dir)
-      block-word h r e l = stops (rest-no-block s pos (drop i (oldsOf n dir)) (sizeAt dir i) (firstAt dir i) (countAt dir i) (old (sizeAt dir (suc i)) (firstAt dir (suc i)) (countAt dir (suc i))) (drop (suc (suc i)) (oldsOf n dir)) (pieces i (omega arith))
-          (closes-out s (pos + lo (getD dir (i * 2) 0)) (word-out s (pos + lo (getD dir (i * 2) 0)) r e l)))
+      pub block-word : i + 1 < n → (r : ℕ) → WordEnd s (pos + lo (getD dir (i * entryWords) 0)) r → length s ≤ r → i ≡ keptFront s (oldsOf n dir)
+      block-word h r e l = stops (rest-no-block s pos (drop i (oldsOf n dir)) (sizeAt dir i) (firstAt dir i) (countAt dir i) (counterAt dir i) (old (sizeAt dir (suc i)) (firstAt dir (suc i)) (countAt dir (suc i)) (counterAt dir (suc i))) (drop (suc (suc i)) (oldsOf n dir)) (pieces i (omega arith))
+          (closes-out s (pos + lo (getD dir (i * entryWords) 0)) (word-out s (pos + lo (getD dir (i * entryWords) 0)) r e l)))
 
-      pub block-addrspace : i + 1 < n → leads addrspace (drop (pos + lo (getD dir (i * 2) 0)) s) ≡ true → i ≡ keptFront s (oldsOf n dir)
-      block-addrspace h l = stops (rest-no-block s pos (drop i (oldsOf n dir)) (sizeAt dir i) (firstAt dir i) (countAt dir i) (old (sizeAt dir (suc i)) (firstAt dir (suc i)) (countAt dir (suc i))) (drop (suc (suc i)) (oldsOf n dir)) (pieces i (omega arith))
-          (closes-addrspace s (pos + lo (getD dir (i * 2) 0)) l))
+      pub block-addrspace : i + 1 < n → leads addrspace (drop (pos + lo (getD dir (i * entryWords) 0)) s) ≡ true → i ≡ keptFront s (oldsOf n dir)
+      block-addrspace h l = stops (rest-no-block s pos (drop i (oldsOf n dir)) (sizeAt dir i) (firstAt dir i) (countAt dir i) (counterAt dir i) (old (sizeAt dir (suc i)) (firstAt dir (suc i)) (countAt dir (suc i)) (counterAt dir (suc i))) (drop (suc (suc i)) (oldsOf n dir)) (pieces i (omega arith))
+          (closes-addrspace s (pos + lo (getD dir (i * entryWords) 0)) l))
 
-      pub block-kept : i + 1 < n → (r : ℕ) → WordEnd s (pos + lo (getD dir (i * 2) 0)) r → r < length s → leads addrspace (drop (pos + lo (getD dir (i * 2) 0)) s) ≡ false
-          → Going (i + 1) (pos + lo (getD dir (i * 2) 0)) r
+      pub block-kept : i + 1 < n → (r : ℕ) → WordEnd s (pos + lo (getD dir (i * entryWords) 0)) r → r < length s → leads addrspace (drop (pos + lo (getD dir (i * entryWords) 0)) s) ≡ false
+          → Going (i + 1) (pos + lo (getD dir (i * entryWords) 0)) r
       block-kept h r e l a =
-          let p : ℕ = pos + lo (getD dir (i * 2) 0) in
+          let p : ℕ = pos + lo (getD dir (i * entryWords) 0) in
           let q : i + 1 ≡ suc i = add-one i in
           let c : closes (drop p s) ≡ true = closes-in s p (word-in s p r e l) a in
           let k : keptRest (drop pos s) (drop i (oldsOf n dir)) ≡ suc (keptRest (drop p s) (drop (suc i) (oldsOf n dir))) =
-          rest-block s pos (drop i (oldsOf n dir)) (sizeAt dir i) (firstAt dir i) (countAt dir i) (old (sizeAt dir (suc i)) (firstAt dir (suc i)) (countAt dir (suc i))) (drop (suc (suc i)) (oldsOf n dir)) (pieces i (omega arith)) c
+          rest-block s pos (drop i (oldsOf n dir)) (sizeAt dir i) (firstAt dir i) (countAt dir i) (counterAt dir i) (old (sizeAt dir (suc i)) (firstAt dir (suc i)) (countAt dir (suc i)) (counterAt dir (suc i))) (drop (suc (suc i)) (oldsOf n dir)) (pieces i (omega arith)) c
           ∙ ap {B = ℕ} (λ t. suc (keptRest (drop p s) t)) (sym (piece (suc i) (omega arith))) in
           record {
             low = omega arith;
@@ -311,22 +324,24 @@ module _ (s : List ℕ) (n : ℕ) (dir : List ℕ) where
           }
 
       -- the tail
-      last : n ≤ i + 1 → drop i (oldsOf n dir) ≡ old (sizeAt dir i) (firstAt dir i) (countAt dir i) ∷ []
-      last h = piece i (g .high) ∙ ap {B = List Old} (λ t. old (sizeAt dir i) (firstAt dir i) (countAt dir i) ∷ t) (drop-of-length-le (oldsOf n dir) {i = suc i} (omega (arith, olds-length n dir inside)))
+      last : n ≤ i + 1 → drop i (oldsOf n dir) ≡ old (sizeAt dir i) (firstAt dir i) (countAt dir i) (counterAt dir i) ∷ []
+      last h = piece i (g .high) ∙ ap {B = List Old} (λ t. old (sizeAt dir i) (firstAt dir i) (countAt dir i) (counterAt dir i) ∷ t) (drop-of-length-le (oldsOf n dir) {i = suc i} (omega (arith, olds-length n dir inside)))
 
-      pub tail-out : n ≤ i + 1 → length s ≤ pos + lo (getD dir (i * 2) 0) → i ≡ keptFront s (oldsOf n dir)
-      tail-out h l = stops (rest-no-tail s pos (drop i (oldsOf n dir)) (sizeAt dir i) (firstAt dir i) (countAt dir i) (last h) (g .below) l)
+      pub tail-out : n ≤ i + 1 → length s ≤ pos + lo (getD dir (i * entryWords) 0) → i ≡ keptFront s (oldsOf n dir)
+      tail-out h l = stops (rest-no-tail s pos (drop i (oldsOf n dir)) (sizeAt dir i) (firstAt dir i) (countAt dir i) (counterAt dir i) (last h) (g .below) l)
 
-      pub tail-kept : n ≤ i + 1 → pos + lo (getD dir (i * 2) 0) < length s → i + 1 ≡ keptFront s (oldsOf n dir)
-      tail-kept h l = sym (g .rest ∙ rw (rest-tail s pos (drop i (oldsOf n dir)) (sizeAt dir i) (firstAt dir i) (countAt dir i) (last h) l))
+      pub tail-kept : n ≤ i + 1 → pos + lo (getD dir (i * entryWords) 0) < length s → i + 1 ≡ keptFront s (oldsOf n dir)
+      tail-kept h l = sym (g .rest ∙ rw (rest-tail s pos (drop i (oldsOf n dir)) (sizeAt dir i) (firstAt dir i) (countAt dir i) (counterAt dir i) (last h) l))
 
-  -- where `front_of` answers for the pieces that are kept
-  pub front-is : (i c pos at : ℕ) → i ≤ n → i ≡ keptFront s (oldsOf n dir) → (c ≡ i) × (pos ≡ oldSizes (oldsOf i dir)) × (at ≡ oldWords (oldsOf i dir)) → FrontIs s (oldsOf n dir) c pos at
-  front-is i c pos at h k r =
+  -- where `behind` answers for the pieces that are kept
+  pub front-is : (i c pos at d : ℕ) → i ≡ keptFront s (oldsOf n dir)
+      → (c ≡ i) × (pos ≡ oldSizes (take i (oldsOf n dir))) × (at ≡ oldWords (take i (oldsOf n dir))) × (d ≡ begins i (oldsOf n dir)) → FrontIs s (oldsOf n dir) c pos at d
+  front-is i c pos at d k r =
       record {
         kept = r .0 ∙ k;
-        size = r .1 ∙ ap oldSizes (sym (olds-take n i dir h) ∙ ap (λ (m : ℕ). take m (oldsOf n dir)) (sym (r .0)));
-        words = r .2 ∙ ap oldWords (sym (olds-take n i dir h) ∙ ap (λ (m : ℕ). take m (oldsOf n dir)) (sym (r .0)));
+        size = r .1 ∙ ap (λ (m : ℕ). oldSizes (take m (oldsOf n dir))) (sym (r .0));
+        words = r .2 ∙ ap (λ (m : ℕ). oldWords (take m (oldsOf n dir))) (sym (r .0));
+        begin = r .3 ∙ ap (λ (m : ℕ). begins m (oldsOf n dir)) (sym (r .0));
       }
 
 -- ---- what is kept in front lies inside
@@ -344,23 +359,23 @@ Inside s os k = (k ≤ length os) × (oldSizes (take k os) ≤ length s)
 rest-inside : (s : List ℕ) (os : List Old) → Inside s os (keptRest s os)
 unfolding Inside keptRest oldSizes
 rest-inside s [] = (omega arith, omega arith)
-rest-inside s (old e f n ∷ []) = go (ltb e (length s)) refl
+rest-inside s (old e f n d ∷ []) = go (ltb e (length s)) refl
   where
-    go : (b : Bool) → ltb e (length s) ≡ b → Inside s (old e f n ∷ []) (keptRest s (old e f n ∷ []))
+    go : (b : Bool) → ltb e (length s) ≡ b → Inside s (old e f n d ∷ []) (keptRest s (old e f n d ∷ []))
     go true t = rw (keptRest, t) (omega arith, omega (arith, ltb-true e (length s) t))
     go false t = rw (keptRest, t) (omega arith, omega arith)
-rest-inside s (old e f n ∷ o ∷ os) = go (closes (drop e s)) refl (rest-inside (drop e s) (o ∷ os))
+rest-inside s (old e f n d ∷ o ∷ os) = go (closes (drop e s)) refl (rest-inside (drop e s) (o ∷ os))
   where
-    go : (b : Bool) → closes (drop e s) ≡ b → Inside (drop e s) (o ∷ os) (keptRest (drop e s) (o ∷ os)) → Inside s (old e f n ∷ o ∷ os) (keptRest s (old e f n ∷ o ∷ os))
-    go true t ih = rw (block-yes s e f n o os t) (omega (arith, ih .0), omega (arith, ih .1, closes-inside s e t, length-drop e s))
+    go : (b : Bool) → closes (drop e s) ≡ b → Inside (drop e s) (o ∷ os) (keptRest (drop e s) (o ∷ os)) → Inside s (old e f n d ∷ o ∷ os) (keptRest s (old e f n d ∷ o ∷ os))
+    go true t ih = rw (block-yes s e f n d o os t) (omega (arith, ih .0), omega (arith, ih .1, closes-inside s e t, length-drop e s))
     go false t ih = rw (keptRest, t) (omega arith, omega arith)
 
 front-in : (s : List ℕ) (os : List Old) → Inside s os (keptFront s os)
 unfolding Inside keptFront oldSizes
 front-in s [] = (omega arith, omega arith)
-front-in s (old e f n ∷ os) = go (ltb e (length s)) refl (rest-inside (drop e s) os)
+front-in s (old e f n d ∷ os) = go (ltb e (length s)) refl (rest-inside (drop e s) os)
   where
-    go : (b : Bool) → ltb e (length s) ≡ b → Inside (drop e s) os (keptRest (drop e s) os) → Inside s (old e f n ∷ os) (keptFront s (old e f n ∷ os))
+    go : (b : Bool) → ltb e (length s) ≡ b → Inside (drop e s) os (keptRest (drop e s) os) → Inside s (old e f n d ∷ os) (keptFront s (old e f n d ∷ os))
     go true t ih = rw (keptFront, t) (omega (arith, ih .0), omega (arith, ih .1, ltb-true e (length s) t, length-drop e s))
     go false t ih = rw (keptFront, t) (omega arith, omega arith)
 

@@ -8,26 +8,45 @@ ghost use lib.ListN.{length, take, drop};
 ghost use Rattle.program.specs.Class.{isWord};
 ghost use Rattle.records.specs.Limits.{halfLimit};
 ghost use Rattle.records.specs.Pieces.{leads, addrspace, oldSizes, oldWords};
-ghost use Rattle.directory.specs.Olds.{oldsOf, Joined, FrontIs, WordEnd, RoomFor, KeptBehind};
+ghost use Rattle.directory.specs.Olds.{oldsOf, begins, Joined, FrontIs, WordEnd, RoomFor, KeptBehind};
 
-// Where the first `number` pieces end, and the next would stand.
-pub fn behind(directory: &[u64], number: usize) -> Spot
-    requires { ⌜ Joined number (now directory) ⌝ }
-    ensures { λ r. ⌜ (r .number ≡ number) × (r .pos ≡ oldSizes (oldsOf number (now (directory .entry)))) × (r .word ≡ oldWords (oldsOf number (now (directory .entry)))) ⌝ }
+// The counter with which reading begins at that piece: "that of the old piece it starts at, and .. 0 at the head" (M-106).
+fn counter_at(directory: &[u64], entries: usize, number: usize) -> u64
+    requires { ⌜ Joined entries (now directory) ⌝ }
+    ensures { λ r. ⌜ r ≡ begins number (oldsOf entries (now (directory .entry))) ⌝ }
 {
     if number == 0 {
+        return 0;
+    }
+    if entries <= number {
+        return 0;
+    }
+    directory[number * records::ENTRY_WORDS + 2]
+}
+
+// Where the first `number` of the pieces end, and the next would stand.
+pub fn behind(directory: &[u64], entries: usize, number: usize) -> Spot
+    requires { ⌜ number ≤ entries ⌝ }
+    requires { ⌜ Joined entries (now directory) ⌝ }
+    ensures { λ r. ⌜ (r .number ≡ number) × (r .pos ≡ oldSizes (take number (oldsOf entries (now (directory .entry))))) × (r .word ≡ oldWords (take number (oldsOf entries (now (directory .entry))))) × (r .counter ≡ begins number (oldsOf entries (now (directory .entry)))) ⌝ }
+{
+    let counter = counter_at(directory, entries, number);
+    if number == 0 {
         return Spot {
-            number: 0,
+            number,
             pos: 0,
             word: 0,
+            counter,
         };
     }
-    let x = directory[(number - 1) * 2];
-    let y = directory[(number - 1) * 2 + 1];
+    let last = (number - 1) * records::ENTRY_WORDS;
+    let x = directory[last];
+    let y = directory[last + 1];
     Spot {
         number,
         pos: (x / records::HALF + x % records::HALF) as usize,
         word: (y / records::HALF + y % records::HALF) as usize,
+        counter,
     }
 }
 
@@ -113,35 +132,35 @@ fn addrspace_at(text: &[u8], a: usize, p: usize) -> bool
 pub fn kept_front(text: &[u8], a: usize, directory: &[u64], entries: usize) -> Spot
     requires { ⌜ (a ≤ length (now text)) × (2 ≤ entries) ⌝ }
     requires { ⌜ Joined entries (now directory) ⌝ }
-    ensures { λ r. ⌜ FrontIs (take a (now (text .entry))) (oldsOf entries (now (directory .entry))) (r .number) (r .pos) (r .word) ⌝ }
+    ensures { λ r. ⌜ FrontIs (take a (now (text .entry))) (oldsOf entries (now (directory .entry))) (r .number) (r .pos) (r .word) (r .counter) ⌝ }
 {
     let head = (directory[0] % records::HALF) as usize;
     if a <= head {
-        return behind(directory, 0);
+        return behind(directory, entries, 0);
     }
     let mut i: usize = 1;
     let mut pos = head;
     let mut w: usize = 0;
     while i + 1 < entries {
-        let e = (directory[i * 2] % records::HALF) as usize;
+        let e = (directory[i * records::ENTRY_WORDS] % records::HALF) as usize;
         if a - pos <= e {
-            return behind(directory, i);
+            return behind(directory, entries, i);
         }
         pos += e;
         w = word_end(text, a, later(w, pos));
         if a <= w {
-            return behind(directory, i);
+            return behind(directory, entries, i);
         }
         if addrspace_at(text, a, pos) {
-            return behind(directory, i);
+            return behind(directory, entries, i);
         }
         i += 1;
     }
-    let tail = (directory[i * 2] % records::HALF) as usize;
+    let tail = (directory[i * records::ENTRY_WORDS] % records::HALF) as usize;
     if a - pos <= tail {
-        return behind(directory, i);
+        return behind(directory, entries, i);
     }
-    behind(directory, i + 1)
+    behind(directory, entries, i + 1)
 }
 
 // Makes place for what is read: the old pieces from number `from` on, "kept, shifted", come to stand there. Returns the end of their words.
@@ -160,10 +179,11 @@ pub fn keep_behind(
     if from == entries {
         return spot.word;
     }
-    let here = behind(directory, from);
-    let end = behind(directory, entries);
+    let here = behind(directory, entries, from);
+    let end = behind(directory, entries, entries);
     let n = end.word - here.word;
-    move_words(words, here.word, spot.word, n);
+    let word = spot.word;
+    move_words(words, here.word, word, n);
     move_entries(directory, entries, from, spot);
-    spot.word + n
+    word + n
 }

@@ -5,6 +5,7 @@ use mathlib.Core.List.{List, [], _∷_, _++_}
 use Prim.Native.Nat.{ℕ, zero, suc, _+_, _-_, _*_, _/_, _≤_, _<_}
 use native.Mathlib.Omega.{arith}
 use lib.ListN.{set, length, drop, getD, length-drop}
+use Rattle.records.specs.Limits.{entryWords}
 use Rattle.records.specs.Words.{hi, lo}
 use Rattle.lexer.specs.Step.{bumped}
 use Rattle.program.specs.Lists.{drop-next}
@@ -28,56 +29,61 @@ and-then {at} {k} {r} {a} {b} {out} {mid} {end} p q = record {
   buffer = q .buffer ∙ ap (λ (x : ℕ). stored x b mid) (p .place) ∙ ap (stored (placed at a) b) (p .buffer) ∙ sym (stored-append at a b out);
 }
 
--- The text from a piece's entry on is its two words and the rest.
-two : (dir : List ℕ) (i : ℕ) → i * 2 + 1 < length dir → drop (i * 2) dir ≡ getD dir (i * 2) 0 ∷ getD dir (i * 2 + 1) 0 ∷ drop ((i + 1) * 2) dir
-two dir i h =
-    let e : i * 2 + 1 + 1 ≡ (i + 1) * 2 = omega arith in
-    drop-next dir (i * 2) (omega arith) ∙ ap {B = List ℕ} (λ r. getD dir (i * 2) 0 ∷ r) (drop-next dir (i * 2 + 1) h ∙ ap (λ (k : ℕ). getD dir (i * 2 + 1) 0 ∷ drop k dir) e)
+-- The directory from a piece's entry on is its three words and the rest.
+three : (dir : List ℕ) (i : ℕ) → i * entryWords + 2 < length dir → drop (i * entryWords) dir ≡ getD dir (i * entryWords) 0 ∷ getD dir (i * entryWords + 1) 0 ∷ getD dir (i * entryWords + 2) 0 ∷ drop ((i + 1) * entryWords) dir
+three dir i h =
+    let a : i * entryWords + 1 + 1 ≡ i * entryWords + 2 = omega arith in
+    let e : i * entryWords + 2 + 1 ≡ (i + 1) * entryWords = omega arith in
+    drop-next dir (i * entryWords) (omega arith)
+    ∙ ap {B = List ℕ} (λ r. getD dir (i * entryWords) 0 ∷ r) (drop-next dir (i * entryWords + 1) (omega arith)
+    ∙ ap {B = List ℕ} (λ r. getD dir (i * entryWords + 1) 0 ∷ r) (ap (λ (k : ℕ). drop k dir) a ∙ drop-next dir (i * entryWords + 2) h ∙ ap (λ (k : ℕ). getD dir (i * entryWords + 2) 0 ∷ drop k dir) e))
 
-short : (dir : List ℕ) (i : ℕ) → length dir / 2 ≤ i → length (drop (i * 2) dir) ≤ 1
-short dir i h = omega (arith, length-drop (i * 2) dir)
+short : (dir : List ℕ) (i : ℕ) → length dir / entryWords ≤ i → length (drop (i * entryWords) dir) ≤ 2
+short dir i h = omega (arith, length-drop (i * entryWords) dir)
 
 -- a line, and those behind it
-pub next-line : (dir : List ℕ) (i n : ℕ) → i < n → i * 2 + 1 < length dir → pieceLines i (n - i) (drop (i * 2) dir) ≡ pieceLine i (getD dir (i * 2) 0) (getD dir (i * 2 + 1) 0) ++ pieceLines (i + 1) (n - (i + 1)) (drop ((i + 1) * 2) dir)
+pub next-line : (dir : List ℕ) (i n : ℕ) → i < n → i * entryWords + 2 < length dir → pieceLines i (n - i) (drop (i * entryWords) dir) ≡ pieceLine i (getD dir (i * entryWords) 0) (getD dir (i * entryWords + 1) 0) ++ pieceLines (i + 1) (n - (i + 1)) (drop ((i + 1) * entryWords) dir)
 unfolding pieceLines
 next-line dir i n h l =
     let d : n - i ≡ suc (n - (i + 1)) = omega arith in
     let e : i + 1 ≡ suc i = omega arith in
-    rw (d, two dir i l, e)
+    rw (d, three dir i l, e)
 
-pub next-end : (dir : List ℕ) (w i n : ℕ) → i < n → i * 2 + 1 < length dir → wordsEnd w (n - i) (drop (i * 2) dir) ≡ wordsEnd (hi (getD dir (i * 2 + 1) 0) + lo (getD dir (i * 2 + 1) 0)) (n - (i + 1)) (drop ((i + 1) * 2) dir)
+pub next-end : (dir : List ℕ) (w i n : ℕ) → i < n → i * entryWords + 2 < length dir → wordsEnd w (n - i) (drop (i * entryWords) dir) ≡ wordsEnd (hi (getD dir (i * entryWords + 1) 0) + lo (getD dir (i * entryWords + 1) 0)) (n - (i + 1)) (drop ((i + 1) * entryWords) dir)
 unfolding wordsEnd
 next-end dir w i n h l =
     let d : n - i ≡ suc (n - (i + 1)) = omega arith in
-    rw (d, two dir i l)
+    rw (d, three dir i l)
 
 -- no entry is left
-pub no-line : (xs : List ℕ) (i n : ℕ) → length xs ≤ 1 → pieceLines i n xs ≡ []
+pub no-line : (xs : List ℕ) (i n : ℕ) → length xs ≤ 2 → pieceLines i n xs ≡ []
 unfolding pieceLines
 no-line xs i zero h = refl
 no-line [] i (suc n) h = refl
 no-line (x ∷ []) i (suc n) h = refl
-no-line (x ∷ y ∷ xs) i (suc n) h = absurd (omega arith)
+no-line (x ∷ y ∷ []) i (suc n) h = refl
+no-line (x ∷ y ∷ c ∷ xs) i (suc n) h = absurd (omega arith)
 
-pub no-end : (xs : List ℕ) (w n : ℕ) → length xs ≤ 1 → wordsEnd w n xs ≡ w
+pub no-end : (xs : List ℕ) (w n : ℕ) → length xs ≤ 2 → wordsEnd w n xs ≡ w
 unfolding wordsEnd
 no-end xs w zero h = refl
 no-end [] w (suc n) h = refl
 no-end (x ∷ []) w (suc n) h = refl
-no-end (x ∷ y ∷ xs) w (suc n) h = absurd (omega arith)
+no-end (x ∷ y ∷ []) w (suc n) h = refl
+no-end (x ∷ y ∷ c ∷ xs) w (suc n) h = absurd (omega arith)
 
-pub lines-over : (dir : List ℕ) (i n : ℕ) → length dir / 2 ≤ i → pieceLines i (n - i) (drop (i * 2) dir) ≡ []
-lines-over dir i n h = no-line (drop (i * 2) dir) i (n - i) (short dir i h)
+pub lines-over : (dir : List ℕ) (i n : ℕ) → length dir / entryWords ≤ i → pieceLines i (n - i) (drop (i * entryWords) dir) ≡ []
+lines-over dir i n h = no-line (drop (i * entryWords) dir) i (n - i) (short dir i h)
 
-pub end-over : (dir : List ℕ) (w i n : ℕ) → length dir / 2 ≤ i → wordsEnd w (n - i) (drop (i * 2) dir) ≡ w
-end-over dir w i n h = no-end (drop (i * 2) dir) w (n - i) (short dir i h)
+pub end-over : (dir : List ℕ) (w i n : ℕ) → length dir / entryWords ≤ i → wordsEnd w (n - i) (drop (i * entryWords) dir) ≡ w
+end-over dir w i n h = no-end (drop (i * entryWords) dir) w (n - i) (short dir i h)
 
 -- all pieces are done
-pub lines-done : (dir : List ℕ) (i n : ℕ) → n ≤ i → pieceLines i (n - i) (drop (i * 2) dir) ≡ []
+pub lines-done : (dir : List ℕ) (i n : ℕ) → n ≤ i → pieceLines i (n - i) (drop (i * entryWords) dir) ≡ []
 unfolding pieceLines
 lines-done dir i n h = let d : n - i ≡ 0 = omega arith in rw d
 
-pub end-done : (dir : List ℕ) (w i n : ℕ) → n ≤ i → wordsEnd w (n - i) (drop (i * 2) dir) ≡ w
+pub end-done : (dir : List ℕ) (w i n : ℕ) → n ≤ i → wordsEnd w (n - i) (drop (i * entryWords) dir) ≡ w
 unfolding wordsEnd
 end-done dir w i n h = let d : n - i ≡ 0 = omega arith in rw d
 

@@ -26,19 +26,21 @@ field n = bytes " " ++ decimal n
 unfoldable pub pieceLine : ℕ → ℕ → ℕ → List ℕ
 pieceLine i x y = decimal i ++ (field (hi x) ++ (field (lo x) ++ (field (hi y) ++ (field (lo y) ++ bytes "\n"))))
 
--- the lines of n pieces, the first of which has number i
+-- the lines of n pieces, the first of which has number i; an entry's third word, the counter, is not printed
 unfoldable pub pieceLines : ℕ → ℕ → List ℕ → List ℕ
 pieceLines i zero dir = []
 pieceLines i (suc n) [] = []
 pieceLines i (suc n) (x ∷ []) = []
-pieceLines i (suc n) (x ∷ y ∷ dir) = pieceLine i x y ++ pieceLines (suc i) n dir
+pieceLines i (suc n) (x ∷ y ∷ []) = []
+pieceLines i (suc n) (x ∷ y ∷ c ∷ dir) = pieceLine i x y ++ pieceLines (suc i) n dir
 
 -- where the words of n pieces end, where those before them end at w
 unfoldable pub wordsEnd : ℕ → ℕ → List ℕ → ℕ
 wordsEnd w zero dir = w
 wordsEnd w (suc n) [] = w
 wordsEnd w (suc n) (x ∷ []) = w
-wordsEnd w (suc n) (x ∷ y ∷ dir) = wordsEnd (hi y + lo y) n dir
+wordsEnd w (suc n) (x ∷ y ∷ []) = w
+wordsEnd w (suc n) (x ∷ y ∷ c ∷ dir) = wordsEnd (hi y + lo y) n dir
 
 unfoldable pub listing : ℕ → List ℕ → List ℕ
 listing n dir = bytes "pieces " ++ (decimal n ++ (bytes " words " ++ (decimal (wordsEnd 0 n dir) ++ (bytes "\n" ++ pieceLines 0 n dir))))

@@ -78,7 +78,7 @@ fn put_field(out: &mut [u8], at: usize, n: u64) -> usize
     put_decimal(out, k, n)
 }
 
-// A piece: its number, and its entry's two words.
+// A piece: its number, and its entry's first two words.
 fn put_piece(out: &mut [u8], at: usize, i: u64, x: u64, y: u64) -> usize
     ensures { λ r. ⌜ Stores (pieceLine i x y) at (now (out .entry)) r (now (out .exit)) ⌝ }
 {
@@ -97,11 +97,11 @@ fn put_pieces(out: &mut [u8], at: usize, directory: &[u64], n: usize) -> usize
     let mut k = at;
     let mut i: usize = 0;
     while i < n {
-        if directory.len() / 2 <= i {
+        if directory.len() / records::ENTRY_WORDS <= i {
             return k;
         }
-        let x = directory[i * 2];
-        let y = directory[i * 2 + 1];
+        let x = directory[i * records::ENTRY_WORDS];
+        let y = directory[i * records::ENTRY_WORDS + 1];
         k = put_piece(out, k, i as u64, x, y);
         i += 1;
     }
@@ -115,10 +115,10 @@ fn words_end(directory: &[u64], n: usize) -> u64
     let mut end: u64 = 0;
     let mut i: usize = 0;
     while i < n {
-        if directory.len() / 2 <= i {
+        if directory.len() / records::ENTRY_WORDS <= i {
             return end;
         }
-        let y = directory[i * 2 + 1];
+        let y = directory[i * records::ENTRY_WORDS + 1];
         end = y / records::HALF + y % records::HALF;
         i += 1;
     }

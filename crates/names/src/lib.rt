@@ -22,15 +22,17 @@ pub use skips::skip_metadata_ref;
 pub use skips::skip_parens;
 pub use skips::three_dots;
 ghost use mathlib.Core.Path.{_≡_};
-ghost use Prim.Native.Nat.{_+_, _<_};
+ghost use mathlib.Core.List.{List};
+ghost use Prim.Native.Nat.{ℕ, _+_, _≤_, _<_};
 ghost use lib.ListN.{drop};
 ghost use Rattle.program.specs.Prog.{scanLen};
-ghost use Rattle.grammar.specs.Lexer.{nameStep, quoteStep, nameWord, parseLocalName, parseGlobalName};
+ghost use Rattle.grammar.specs.Lexer.{nameStep, quoteStep, nameOf, nameWord, parseLocalName, parseGlobalName};
 ghost use Rattle.lexer.specs.Table.{Classes};
 ghost use Rattle.lexer.specs.Step.{stepCode};
 ghost use Rattle.lexer.specs.Reads.{Gives};
+ghost use Rattle.lexer.specs.declared.Parsed.{Parsed};
 ghost use Rattle.records.specs.Words.{pack};
-ghost use Rattle.names.specs.Names.{WordIs, noWord, sigilName};
+ghost use Rattle.names.specs.Names.{part, rawWord, WordIs, noWord, sigilName};
 
 // A word as it stands in the text, quotes included, and whether it has no bytes (between its quotes).
 pub struct WordAt {
@@ -157,13 +159,10 @@ pub fn pack_word(at: usize, n: usize) -> u64
     0
 }
 
-// A name behind its sigil, as its word.
-pub fn name_word(classes: &[u8; 256], text: &[u8], p: Parsed) -> Num
-    requires { ⌜ Classes (now classes) ⌝ }
-    ensures { λ r. ⌜ Gives nameWord (r .v) (now (text .entry)) p (r .p) ⌝ }
+// The word that was read from `at` on, as a name; an empty one is refused behind it.
+pub fn name_of(x: WordAt, at: usize) -> Num
+    ensures { λ r. ⌜ ((text : List ℕ) (p : Parsed) → WordIs text p x → at ≤ 16777216 → Gives (nameOf at (rawWord (part text (x .start) (x .end)))) (r .v) text (x .p) (r .p)) ⌝ }
 {
-    let at = lexer::place(p);
-    let x = read_word(classes, text, p);
     let q = x.p;
     if x.empty {
         let q2 = lexer::refuse(q, records::Q_TOKEN);
@@ -172,6 +171,16 @@ pub fn name_word(classes: &[u8; 256], text: &[u8], p: Parsed) -> Num
     let n = lexer::minus(x.end, x.start);
     let v = pack_word(at, n);
     Num { p: q, v }
+}
+
+// A name behind its sigil, as its word.
+pub fn name_word(classes: &[u8; 256], text: &[u8], p: Parsed) -> Num
+    requires { ⌜ Classes (now classes) ⌝ }
+    ensures { λ r. ⌜ Gives nameWord (r .v) (now (text .entry)) p (r .p) ⌝ }
+{
+    let at = lexer::place(p);
+    let x = read_word(classes, text, p);
+    name_of(x, at)
 }
 
 // White space, and a name with the sigil b.

@@ -38,7 +38,7 @@ enum Step {
     Refused(u64, u64),
 }
 
-// Behind the piece there, which takes so much. Old starts are looked for from piece `from` on.
+// Behind the piece there, which takes so much, where the counter is `behind`. Old starts are looked for from piece `from` on.
 fn follow(
     older: &[u8],
     newer: &[u8],
@@ -46,12 +46,13 @@ fn follow(
     known: Known,
     spot: Spot,
     size: Size,
+    behind: u64,
     from: usize,
 ) -> Step
     requires { ⌜ known .end ≡ commonEnd (now older) (now newer) ⌝ }
     requires { ⌜ Given (now older) (now newer) (known .words) (known .entries) (now directory) ⌝ }
-    requires { ⌜ Took (now older) (now newer) (known .words) (known .entries) (now directory) (spot .number) (spot .pos) (spot .word) from (size .bytes) (size .words) ⌝ }
-    ensures { λ r. ⌜ Follows (now (older .entry)) (now (newer .entry)) (known .words) (known .entries) (now (directory .entry)) (spot .number + 1) (spot .pos + size .bytes) (spot .word + size .words) r ⌝ }
+    requires { ⌜ Took (now older) (now newer) (known .words) (known .entries) (now directory) (spot .number) (spot .pos) (spot .word) (spot .counter) from (size .bytes) (size .words) behind ⌝ }
+    ensures { λ r. ⌜ Follows (now (older .entry)) (now (newer .entry)) (known .words) (known .entries) (now (directory .entry)) (spot .number + 1) (spot .pos + size .bytes) (spot .word + size .words) behind r ⌝ }
 {
     let lent = Lent {
         words: known.words,
@@ -69,13 +70,14 @@ fn follow(
     let end = spot.pos + size.bytes;
     match ask(lent, spot, size) {
         Verdict::Refused(q, p) => Step::Refused(q, p),
-        Verdict::Fine => match join_old(directory, known.entries, from, edit, end) {
+        Verdict::Fine => match join_old(directory, known.entries, from, edit, end, behind) {
             Found::Nothing(f) => Step::More(f),
             Found::At(f) => {
                 let next = Spot {
                     number: spot.number + 1,
                     pos: end,
                     word: spot.word + size.words,
+                    counter: behind,
                 };
                 match room_kept(directory, old, f, next) {
                     Verdict::Refused(q, p) => Step::Refused(q, p),
@@ -98,7 +100,7 @@ pub fn read_dry(
     requires { ⌜ Classes (now classes) ⌝ }
     requires { ⌜ known .end ≡ commonEnd (now older) (now newer) ⌝ }
     requires { ⌜ Given (now older) (now newer) (known .words) (known .entries) (now directory) ⌝ }
-    requires { ⌜ FrontIs (common (now older) (now newer)) (oldsOf (known .entries) (now directory)) (front .number) (front .pos) (front .word) ⌝ }
+    requires { ⌜ FrontIs (common (now older) (now newer)) (oldsOf (known .entries) (now directory)) (front .number) (front .pos) (front .word) (front .counter) ⌝ }
     ensures { λ r. ⌜ Ends (now (older .entry)) (now (newer .entry)) (known .words) (known .entries) (now (directory .entry)) r ⌝ }
 {
     let entries = known.entries;
@@ -109,32 +111,41 @@ pub fn read_dry(
     let mut number = front.number;
     let mut pos = front.pos;
     let mut word = front.word;
+    let mut counter = front.counter;
     let mut from: usize = 1;
     if number == entries {
         return Plan::Keep(front, entries);
     }
     loop {
-        let spot = Spot { number, pos, word };
+        let spot = Spot {
+            number,
+            pos,
+            word,
+            counter,
+        };
         match piece_dry(classes, newer, spot) {
             Piece::Refused(q, p) => return Plan::Refused(q, pos as u64 + p),
             Piece::Tail(bytes) => match ask(lent, spot, Size { bytes, words: 0 }) {
                 Verdict::Refused(q, p) => return Plan::Refused(q, p),
                 Verdict::Fine => {
+                    // nothing stands behind the tail, so this counter numbers nothing
                     let next = Spot {
                         number: number + 1,
                         pos: pos + bytes,
                         word,
+                        counter,
                     };
                     return Plan::Keep(next, entries);
                 }
             },
-            Piece::Read(bytes, words) => match follow(
+            Piece::Read(bytes, words, behind) => match follow(
                 older,
                 newer,
                 directory,
                 known,
                 spot,
                 Size { bytes, words },
+                behind,
                 from,
             ) {
                 Step::Refused(q, p) => return Plan::Refused(q, p),
@@ -143,6 +154,7 @@ pub fn read_dry(
                         number: number + 1,
                         pos: pos + bytes,
                         word: word + words,
+                        counter: behind,
                     };
                     return Plan::Keep(next, f);
                 }
@@ -150,6 +162,7 @@ pub fn read_dry(
                     number += 1;
                     pos += bytes;
                     word += words;
+                    counter = behind;
                     from = f;
                 }
             },

@@ -17,12 +17,12 @@ pub fn piece_dry(classes: &[u8; 256], text: &[u8], spot: Spot) -> Piece
     requires { ⌜ Classes (now classes) ⌝ }
     requires { ⌜ (length (now text) ≤ textLimit) × (spot .pos ≤ length (now text)) ⌝ }
     requires { ⌜ (spot .number ≡ 0 → spot .pos ≡ 0) ⌝ }
-    ensures { λ r. ⌜ PieceDry (now (text .entry)) (spot .number) (spot .pos) r ⌝ }
+    ensures { λ r. ⌜ PieceDry (now (text .entry)) (spot .number) (spot .pos) (spot .counter) r ⌝ }
 {
     if spot.number == 0 {
         return head_dry(classes, text);
     }
-    block_dry(classes, text, spot.pos)
+    block_dry(classes, text, spot.pos, spot.counter)
 }
 
 // The piece there. Its words stand from there on, as far as `to`.
@@ -30,7 +30,7 @@ pub fn piece_in(classes: &[u8; 256], text: &[u8], words: &mut [u64], spot: Spot,
     requires { ⌜ Classes (now classes) ⌝ }
     requires { ⌜ (length (now text) ≤ textLimit) × (spot .pos ≤ length (now text)) ⌝ }
     requires { ⌜ (spot .word ≤ to) × (to ≤ length (now words)) ⌝ }
-    ensures { λ r. ⌜ PieceIn (now (text .entry)) (spot .number) (spot .pos) (spot .word) to (now (words .entry)) (now (words .exit)) r ⌝ }
+    ensures { λ r. ⌜ PieceIn (now (text .entry)) (spot .number) (spot .pos) (spot .word) (spot .counter) to (now (words .entry)) (now (words .exit)) r ⌝ }
 {
     if spot.number == 0 {
         return head_in(classes, text, words, spot.word, to);

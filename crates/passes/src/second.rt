@@ -21,27 +21,34 @@ pub fn write(
 )
     requires { ⌜ Classes (now classes) ⌝ }
     requires { ⌜ length (now newer) ≤ textLimit ⌝ }
-    requires { ⌜ Fit (now newer) (length (now words)) (length (now directory)) (front .number) (front .pos) (front .word) (behind .number) (behind .word) ⌝ }
-    ensures { λ r. ⌜ Wrote (now (newer .entry)) (front .number) (front .pos) (front .word) (behind .number) (behind .word) (now (words .entry)) (now (directory .entry)) (now (words .exit)) (now (directory .exit)) ⌝ }
+    requires { ⌜ Fit (now newer) (length (now words)) (length (now directory)) (front .number) (front .pos) (front .word) (front .counter) (behind .number) (behind .word) ⌝ }
+    ensures { λ r. ⌜ Wrote (now (newer .entry)) (front .number) (front .pos) (front .word) (front .counter) (behind .number) (behind .word) (now (words .entry)) (now (directory .entry)) (now (words .exit)) (now (directory .exit)) ⌝ }
 {
     let last = behind.number;
     let to = behind.word;
     let mut number = front.number;
     let mut pos = front.pos;
     let mut word = front.word;
+    let mut counter = front.counter;
     while number < last {
-        let spot = Spot { number, pos, word };
+        let spot = Spot {
+            number,
+            pos,
+            word,
+            counter,
+        };
         match piece_in(classes, newer, words, spot, to) {
             Piece::Refused(_, _) => return,
             Piece::Tail(bytes) => {
                 put_entry(directory, spot, Size { bytes, words: 0 });
                 return;
             }
-            Piece::Read(bytes, n) => {
+            Piece::Read(bytes, n, counter_behind) => {
                 put_entry(directory, spot, Size { bytes, words: n });
                 number += 1;
                 pos += bytes;
                 word += n;
+                counter = counter_behind;
             }
         }
     }

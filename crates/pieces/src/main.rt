@@ -27,7 +27,7 @@ fn main() {
     }
     let mut words = [0u64; 8192];
     let mut directory = [0u64; 2048];
-    // 1,024 entries of at most 50 bytes, and the first line
+    // 682 entries of at most 50 bytes, and the first line
     let mut out = [0u8; 65536];
     let k = show(&text[..n], &mut words, &mut directory, &mut out);
     if k <= 65536 {

@@ -60,7 +60,7 @@ pub fn parse_define(text: &[u8], words: &mut [u64], directory: &mut [u64]) -> An
                 Written::Refused(q, p) => refuse(words, directory, q, p),
                 Written::All(entries, word) => {
                     clear(words, word);
-                    clear(directory, entries * 2);
+                    clear(directory, entries * records::ENTRY_WORDS);
                     Answer::Accepted(entries)
                 }
             }
@@ -97,7 +97,7 @@ fn read_again(
             passes::second::write(&classes, newer, words, directory, front, behind);
             let count = behind.number + (entries - from);
             clear(words, end);
-            clear(directory, count * 2);
+            clear(directory, count * records::ENTRY_WORDS);
             Reread::Accepted(Renewed {
                 entries: count,
                 first: front.number,

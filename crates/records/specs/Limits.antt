@@ -45,3 +45,11 @@ listTurns = childLimit + 1
 -- question 20: words end below it; half a word is below it
 abbrev pub halfLimit : ℕ
 halfLimit = 4294967296
+
+-- question 26: the most that the counter can be (M-106); numbers are below it
+abbrev pub counterLimit : ℕ
+counterLimit = 4294967296
+
+-- question 21: the words of a directory entry (M-106: "Directory entries gain a third word")
+abbrev pub entryWords : ℕ
+entryWords = 3

@@ -63,6 +63,11 @@ qLeftOut = 18
 abbrev pub qChildren : ℕ  -- At most 65,535 direct children?
 qChildren = 19
 
+-- (26, in reading order with 3 to 19: M-106, "number below the counter, not below 2^32, or label behind an instruction"; behind the name, behind a
+-- parameter or call that takes the next number, or before the block's first statement)
+abbrev pub qCounter : ℕ  -- Is the number not below the counter and below 2^32, and no label behind an instruction?
+qCounter = 26
+
 -- At the end of a piece read or kept behind:
 abbrev pub qWords : ℕ  -- Do its words end inside the array and below 2^32?
 qWords = 20
@@ -71,6 +76,7 @@ abbrev pub qEntries : ℕ  -- Then: its entry?
 qEntries = 21
 
 -- Re-reading only, place 0, asked behind 1 and 2: Does the older directory, whose entry count is lent, have at least 2 entries within its array,
--- the first starting at 0 in text and words, each starting where the last ended, ending inside older text and words?
+-- the first starting at 0 in text and words, each starting where the last ended, ending inside older text and words? M-106: is each counter at most
+-- 2^32?
 abbrev pub qOlder : ℕ
 qOlder = 22

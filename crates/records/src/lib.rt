@@ -186,6 +186,8 @@ pub const Q_ENTRIES: u64 = 21;
 
 pub const Q_OLDER: u64 = 22;
 
+pub const Q_COUNTER: u64 = 26;
+
 // Limits.
 pub const TEXT_LIMIT: usize = 16777216; // question 1: the most bytes of a text
 
@@ -209,6 +211,10 @@ pub const LIST_TURNS: usize = 65536; // turns of a list, each of which has a chi
 
 pub const HALF_LIMIT: usize = 4294967296; // question 20: words end below it; half a word is below it
 
+pub const COUNTER_LIMIT: u64 = 4294967296; // question 26: the most that the counter can be; numbers are below it
+
+pub const ENTRY_WORDS: usize = 3; // question 21: the words of a directory entry
+
 // A header has its kind, detail and number of children in these units above its number of words. Other packed words have two halves.
 pub const KIND_UNIT: u64 = 72057594037927936; // 2^56
 
@@ -216,8 +222,10 @@ pub const DETAIL_UNIT: u64 = 281474976710656; // 2^48
 
 pub const HALF: u64 = HALF_LIMIT as u64; // 2^32
 
-// The one word of a ptr's node, and the headers of nodes whose length is known.
+// The one word of a ptr's node and of void's, and the headers of nodes whose length is known.
 pub const PTR_NODE: u64 = (K_PTR as u64) * KIND_UNIT + 1;
+
+pub const VOID_NODE: u64 = (K_VOID as u64) * KIND_UNIT + 1;
 
 pub const NAME_HEADER: u64 = (K_NAME as u64) * KIND_UNIT + 2;
 

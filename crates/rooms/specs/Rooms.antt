@@ -5,7 +5,7 @@ use mathlib.Core.Path.{_≡_}
 use Prim.Native.Nat.{ℕ, _+_, _*_}
 use lib.Dec.{leb, ltb}
 use Rattle.records.specs.Questions.{qWords, qEntries}
-use Rattle.records.specs.Limits.{halfLimit}
+use Rattle.records.specs.Limits.{halfLimit, entryWords}
 use Rattle.records.specs.Pieces.{Verdict, refused}
 use Rattle.texts.specs.declared.Verdict as code
 use Rattle.texts.specs.declared.Verdict.the-variants as verdicts
@@ -15,7 +15,7 @@ use Rattle.rooms.specs.declared.Room.the-variants.{Fits, Words, Entry}
 unfoldable pub roomOf : (words dir i word n : ℕ) → Room
 roomOf words dir i word n =
     elim (leb (word + n) words && ltb (word + n) halfLimit) [
-      | true ↦ elim (leb (i * 2 + 2) dir) [ true ↦ Fits | false ↦ Entry ]
+      | true ↦ elim (leb (i * entryWords + entryWords) dir) [ true ↦ Fits | false ↦ Entry ]
       | false ↦ Words
     ]
 

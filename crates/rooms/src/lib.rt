@@ -6,7 +6,7 @@ use texts::Verdict;
 ghost use mathlib.Core.Path.{_≡_};
 ghost use Prim.Native.Nat.{_+_, _*_, _≤_, _<_};
 ghost use lib.ListN.{length, drop};
-ghost use Rattle.records.specs.Limits.{halfLimit, textLimit};
+ghost use Rattle.records.specs.Limits.{halfLimit, textLimit, entryWords};
 ghost use Rattle.records.specs.Pieces.{judge, mapRun, size, before, done, oldSizes};
 ghost use Rattle.texts.specs.Verdicts.{verdict};
 ghost use Rattle.rooms.specs.Rooms.{roomOf, Asked};
@@ -25,20 +25,20 @@ pub struct Lent {
     pub directory: usize,
 }
 
-// Questions 20 and 21 of the piece there, which has n words.
-pub fn room_for(lent: Lent, spot: Spot, n: usize) -> Room
-    ensures { λ r. ⌜ r ≡ roomOf (lent .words) (lent .directory) (spot .number) (spot .word) n ⌝ }
+// Questions 20 and 21 of the piece with that number and first word, which has n words.
+pub fn room_for(lent: Lent, number: usize, word: usize, n: usize) -> Room
+    ensures { λ r. ⌜ r ≡ roomOf (lent .words) (lent .directory) number word n ⌝ }
 {
-    if lent.words < spot.word {
+    if lent.words < word {
         return Room::Words;
     }
-    if lent.words - spot.word < n {
+    if lent.words - word < n {
         return Room::Words;
     }
-    if records::HALF <= (spot.word + n) as u64 {
+    if records::HALF <= (word + n) as u64 {
         return Room::Words;
     }
-    if lent.directory / 2 <= spot.number {
+    if lent.directory / records::ENTRY_WORDS <= number {
         return Room::Entry;
     }
     Room::Fits
@@ -50,7 +50,7 @@ pub fn ask(lent: Lent, spot: Spot, size: Size) -> Verdict
     ensures { λ r. ⌜ Asked (lent .words) (lent .directory) (spot .number) (spot .word) (size .words) (spot .pos + size .bytes) r ⌝ }
 {
     let end = (spot.pos + size.bytes) as u64;
-    match room_for(lent, spot, size.words) {
+    match room_for(lent, spot.number, spot.word, size.words) {
         Room::Fits => Verdict::Fine,
         Room::Words => Verdict::Refused(records::Q_WORDS, end),
         Room::Entry => Verdict::Refused(records::Q_ENTRIES, end),
@@ -60,7 +60,7 @@ pub fn ask(lent: Lent, spot: Spot, size: Size) -> Verdict
 // "the old pieces from the first such are kept, shifted, and 20 and 21 are asked of them too": of the old pieces from `from` on, which
 // come to stand there.
 pub fn room_kept(directory: &[u64], older: Older, from: usize, spot: Spot) -> Verdict
-    requires { ⌜ older .entries * 2 ≤ length (now directory) ⌝ }
+    requires { ⌜ older .entries * entryWords ≤ length (now directory) ⌝ }
     requires { ⌜ spot .pos + oldSizes (drop from (oldsOf (older .entries) (now directory))) < halfLimit ⌝ }
     ensures { λ r. ⌜ verdict r ≡ judge (older .words) (length (now (directory .entry))) (spot .number) (spot .pos) (spot .word) (mapRun size (before (drop from (oldsOf (older .entries) (now (directory .entry)))) done)) ⌝ }
 {
@@ -74,9 +74,10 @@ pub fn room_kept(directory: &[u64], older: Older, from: usize, spot: Spot) -> Ve
     let mut pos = spot.pos;
     let mut word = spot.word;
     while k < entries {
-        let bytes = (directory[k * 2] % records::HALF) as usize;
-        let n = (directory[k * 2 + 1] % records::HALF) as usize;
-        match room_for(lent, Spot { number, pos, word }, n) {
+        let at = k * records::ENTRY_WORDS;
+        let bytes = (directory[at] % records::HALF) as usize;
+        let n = (directory[at + 1] % records::HALF) as usize;
+        match room_for(lent, number, word, n) {
             Room::Words => return Verdict::Refused(records::Q_WORDS, (pos + bytes) as u64),
             Room::Entry => return Verdict::Refused(records::Q_ENTRIES, (pos + bytes) as u64),
             Room::Fits => {

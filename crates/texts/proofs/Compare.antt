@@ -12,7 +12,7 @@ use lib.Dec.{eqb, ltb}
 use lib.ListN.{length, getD, take, drop, length-reverse, length-drop, drop-of-length-le, List·getD-append}
 use lib.Seq.{take-append-seam, getD-drop, getD-append-seam}
 use borrow.Author.Tests.{eq-eqb, ne-eqb, eqb-true, ltb-true, ltb-false}
-use Rattle.theorem_edits.specs.Law.{common-newer}
+use Rattle.theorem_refusals.specs.Common.{common-newer}
 use Rattle.records.specs.Pieces.{common, endBehind, commonEnd}
 use Rattle.texts.specs.Texts.{Same, Shares, Ends}
 use Rattle.program.specs.Lists.{drop-next}

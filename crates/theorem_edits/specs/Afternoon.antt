@@ -57,7 +57,7 @@ unfolding leftOf leaveAgain leave
 again-unchanged words dir fine k r all q p ws ds e = let z : _≡_ {A = ℕ} 0 1 = cc in absurd (omega arith)
 again-unchanged words dir (refused a b) k r all q p ws ds e = cc
 
-olds-unchanged : (headAt : List ℕ → HeadRead) (blockAt : List ℕ → BlockRead) (words dir older newer : List ℕ) (o : Option (List Old)) (q p : ℕ) (ws ds : List ℕ)
+olds-unchanged : (headAt : List ℕ → HeadRead) (blockAt : ℕ → List ℕ → BlockRead) (words dir older newer : List ℕ) (o : Option (List Old)) (q p : ℕ) (ws ds : List ℕ)
     → leftOf (rereadOf headAt blockAt words dir older newer o) ≡ left (refusedAt q p) ws ds → rereadOf headAt blockAt words dir older newer o ≡ again-left (left (refusedAt q p) words dir) 0 0
 unfolding rereadOf
 olds-unchanged headAt blockAt words dir older newer none q p ws ds e = again-unchanged words dir _ 0 done done q p ws ds e

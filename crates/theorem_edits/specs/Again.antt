@@ -1,4 +1,5 @@
--- Demand 3 on these definitions: a block takes at least a byte, so re-reading leaves what a full reading of the newer text leaves, or refuses as it does.
+-- Demand 3 on these definitions: a block takes at least a byte, and its counter stays at most 2^32, so re-reading leaves what a full reading of the
+-- newer text leaves, or refuses as it does.
 -- Assumes nothing.
 use mathlib.Core.Path.{_≡_, refl, sym, _∙_, subst}
 use mathlib.Core.Bool.{Bool, true, false, _&&_, not}
@@ -11,12 +12,14 @@ use lib.ListN.{length, take, drop}
 use Rattle.program.specs.Class.{isWord}
 use Rattle.program.specs.Prog.{Prog, ret, eat, scan, last, Res, ok, closed, no-at, run, _>>=_, byteAt, scanLen}
 use Rattle.program.specs.Local.{next, run-bind, mono}
+use Rattle.records.specs.Limits.{turns}
 use Rattle.records.specs.Pieces.{Old, olds, leftOf, left, count}
+use Rattle.theorem_refusals.specs.Places.{head-counter, block-counter}
 use Rattle.theorem_edits.specs.Law.{Grammar}
 use Rattle.theorem_edits.specs.Same.{orAsLent, same, chained}
 use Rattle.theorem_edits.specs.Programs.{grammar}
 use Rattle.grammar.specs.Lexer.{eatWs, refuse, place, nameStep, quoteStep, quoteEnd, spaceStep, isByte, byteIf, Word, plain, quoted, isEmpty, isEmptyWord, readWord}
-use Rattle.grammar.specs.Body.{Statement, statementOf, wordStatement, parseInst, parseStatement, parseBody, parseBlock, parseHead}
+use Rattle.grammar.specs.Body.{Statement, Where, inBlock, statementOf, parseStatement, parseBody, parseBlock, parseHead}
 use Rattle.grammar.specs.Function.{headAt, blockAt, readingOf, rereadingOf}
 
 -- a part that moves, then the rest
@@ -79,45 +82,45 @@ word-moves : (i j : ℕ) (s : List ℕ) (w : Word) → Some w → run readWord i
 unfolding readWord
 word-moves i j s w n e = byte-moves 34 (scan quoteStep 0 quoteEnd) (scan nameStep 0 (λ w. ret (plain w))) i j s w (λ m t. unquoted-moves i m s w n t) e
 
-statement-some : (i m j : ℕ) (s : List ℕ) (a : Statement) (w : Word) → run (statementOf i w) m s ≡ ok a j → Some w
+statement-some : (i : ℕ) (b : Where) (m j : ℕ) (s : List ℕ) (a : Statement) (w : Word) → run (statementOf i b w) m s ≡ ok a j → Some w
 unfolding run statementOf refuse isEmptyWord isEmpty
-statement-some i m j s a (plain []) e = let z : _≡_ {A = ℕ} 0 1 = cc in absurd (omega arith)
-statement-some i m j s a (plain (x ∷ w)) e = some-plain
-statement-some i m j s a (quoted w) e = some-quoted
+statement-some i b m j s a (plain []) e = let z : _≡_ {A = ℕ} 0 1 = cc in absurd (omega arith)
+statement-some i b m j s a (plain (x ∷ w)) e = some-plain
+statement-some i b m j s a (quoted w) e = some-quoted
 
-word-statement-moves : (i j : ℕ) (s : List ℕ) (a : Statement) → run wordStatement i s ≡ ok a j → suc i ≤ j
-unfolding wordStatement place run _>>=_ next
-word-statement-moves i j s a e = go (run readWord i s) refl
+word-statement-moves : (i0 i j : ℕ) (b : Where) (s : List ℕ) (a : Statement) → run (readWord >>= statementOf i0 b) i s ≡ ok a j → suc i ≤ j
+unfolding next
+word-statement-moves i0 i j b s a e = go (run readWord i s) refl
   where
-    w : next (statementOf i) i s (run readWord i s) ≡ ok a j
-    w = sym (run-bind readWord (statementOf i) i s) ∙ e
+    w : next (statementOf i0 b) i s (run readWord i s) ≡ ok a j
+    w = sym (run-bind readWord (statementOf i0 b) i s) ∙ e
 
     go : (r : Res Word) → run readWord i s ≡ r → suc i ≤ j
     go (ok v m) t =
-        let w2 : run (statementOf i v) m (drop (m - i) s) ≡ ok a j = rw t at w in
-        omega (arith, word-moves i m s v (statement-some i m j (drop (m - i) s) a v w2) t, mono (statementOf i v) m j (drop (m - i) s) (rw w2 refl) .0)
-    go (closed ws m) t = let w2 : next (statementOf i) i s (closed ws m) ≡ ok a j = rw t at w in let z : _≡_ {A = ℕ} 0 1 = cc in absurd (omega arith)
-    go (no-at q p) t = let w2 : next (statementOf i) i s (no-at q p) ≡ ok a j = rw t at w in let z : _≡_ {A = ℕ} 0 1 = cc in absurd (omega arith)
+        let w2 : run (statementOf i0 b v) m (drop (m - i) s) ≡ ok a j = rw t at w in
+        omega (arith, word-moves i m s v (statement-some i0 b m j (drop (m - i) s) a v w2) t, mono (statementOf i0 b v) m j (drop (m - i) s) (rw w2 refl) .0)
+    go (closed ws m) t = let w2 : next (statementOf i0 b) i s (closed ws m) ≡ ok a j = rw t at w in let z : _≡_ {A = ℕ} 0 1 = cc in absurd (omega arith)
+    go (no-at q p) t = let w2 : next (statementOf i0 b) i s (no-at q p) ≡ ok a j = rw t at w in let z : _≡_ {A = ℕ} 0 1 = cc in absurd (omega arith)
 
 -- a statement takes a byte
-pub statement-moves : (i j : ℕ) (s : List ℕ) (a : Statement) → run parseStatement i s ≡ ok a j → suc i ≤ j
-unfolding parseStatement
-statement-moves i j s a e = byte-moves 37 parseInst wordStatement i j s a (λ m t. word-statement-moves i m s a t) e
+pub statement-moves : (b : Where) (i j : ℕ) (s : List ℕ) (a : Statement) → run (parseStatement b) i s ≡ ok a j → suc i ≤ j
+unfolding parseStatement place run _>>=_
+statement-moves b i j s a e = byte-moves 37 _ _ i j s a (λ m t. word-statement-moves i i m b s a t) e
 
-body-moves : (u l n over : ℕ) (acc s : List ℕ) (e : ℕ) (ws : List ℕ) → run (parseBody u l n over acc) 0 s ≡ ok ws e → 1 ≤ e
+body-moves : (u c l n over : ℕ) (acc s : List ℕ) (e : ℕ) (ws : List ℕ) → run (parseBody u c l n over acc) 0 s ≡ ok ws e → 1 ≤ e
 unfolding parseBody run refuse
-body-moves zero l n over acc s e ws h = let z : _≡_ {A = ℕ} 0 1 = cc in absurd (omega arith)
-body-moves (suc u) l n over acc s e ws h =
-    space-moves _ e s ws (λ i r w. last-moves 125 _ i e r ws (λ m x. then-moves parseStatement _ i m r ws (λ a m2 y. statement-moves i m2 r a y) x) w) h
+body-moves zero c l n over acc s e ws h = let z : _≡_ {A = ℕ} 0 1 = cc in absurd (omega arith)
+body-moves (suc u) c l n over acc s e ws h =
+    space-moves _ e s ws (λ i r w. last-moves 125 _ i e r ws (λ m x. then-moves (parseStatement (inBlock c l n)) _ i m r ws (λ a m2 y. statement-moves (inBlock c l n) i m2 r a y) x) w) h
 
-pub block-moves : (s : List ℕ) (e : ℕ) (ws : List ℕ) → run parseBlock 0 s ≡ ok ws e → 1 ≤ e
+pub block-moves : (c : ℕ) (s : List ℕ) (e : ℕ) (ws : List ℕ) → run (parseBlock c) 0 s ≡ ok ws e → 1 ≤ e
 unfolding parseBlock
-block-moves = body-moves 16777217 0 0 0 []
+block-moves c = body-moves turns c 0 0 0 []
 
 -- The readers of one piece have what demand 3 asks of them.
 pub laws : Grammar headAt blockAt
 unfolding headAt blockAt
-laws = grammar parseHead parseBlock block-moves
+laws = grammar parseHead parseBlock block-moves head-counter (λ c s e d ws h. block-counter c s e d ws h .1)
 
 -- Demand 3: on the records of an accepted full reading of the older text, re-reading leaves what a full reading of the newer text leaves, every word of
 -- both arrays and the entry count; where that refuses, it refuses with the same number at the same place, and the arrays are as they were lent.

@@ -23,76 +23,77 @@ use Rattle.theorem_edits.specs.Again.{block-moves}
 unfoldable pub extent : {A : Type 0} → Run A → ℕ
 extent done = 0
 extent (stop q p) = 0
-extent (item e a r) = e + extent r
+extent (item e c a r) = e + extent r
 
 -- no piece of it is refused
 unfoldable pub isWhole : {A : Type 0} → Run A → Bool
 isWhole done = true
 isWhole (stop q p) = false
-isWhole (item e a r) = isWhole r
+isWhole (item e c a r) = isWhole r
 
-module _ (headP blockP : Prog (List ℕ)) (moves : (s : List ℕ) (e : ℕ) (ws : List ℕ) → run blockP 0 s ≡ ok ws e → 1 ≤ e) where
-  abbrev pieces : ℕ → List ℕ → Run (List ℕ)
-  pieces n s = blocksIn (headRead headP) (blockRead blockP) n s
+module _ (headP : Prog (List ℕ)) (blockP : ℕ → Prog (List ℕ)) (moves : (c : ℕ) (s : List ℕ) (e : ℕ) (l : List ℕ) → run (blockP c) 0 s ≡ ok l e → 1 ≤ e) where
+  abbrev pieces : (n c : ℕ) → List ℕ → Run (List ℕ)
+  pieces n c s = blocksIn (headRead headP) (blockRead blockP) n c s
 
   -- What is left behind a block has turns enough.
-  fewer : (n m : ℕ) (xs ys ws : List ℕ) → run blockP 0 (xs ++ ys) ≡ ok ws m → m ≤ length xs → length (xs ++ ys) < suc n → length (drop m xs ++ ys) < n
-  fewer n m xs ys ws h k l =
-      omega (arith, moves (xs ++ ys) m ws h, length-append (drop m xs) ys, length-append xs ys, length-drop m xs)
+  fewer : (n m c : ℕ) (xs ys l : List ℕ) → run (blockP c) 0 (xs ++ ys) ≡ ok l m → m ≤ length xs → length (xs ++ ys) < suc n → length (drop m xs ++ ys) < n
+  fewer n m c xs ys l h k t =
+      omega (arith, moves c (xs ++ ys) m l h, length-append (drop m xs) ys, length-append xs ys, length-drop m xs)
 
   -- The text up to the tail's closing byte settles where a word in front of it ends.
-  blocks-end : (n : ℕ) (xs ys : List ℕ) → length (xs ++ ys) < n → isWhole (pieces n (xs ++ ys)) ≡ true → extent (pieces n (xs ++ ys)) ≡ length xs → ends xs ≡ true
+  blocks-end : (n c : ℕ) (xs ys : List ℕ) → length (xs ++ ys) < n → isWhole (pieces n c (xs ++ ys)) ≡ true → extent (pieces n c (xs ++ ys)) ≡ length xs → ends xs ≡ true
   unfolding blocksIn isWhole extent blockRead
-  blocks-end zero xs ys l w e = absurd (omega arith)
-  blocks-end (suc n) xs ys l w e = go (blockRead blockP (xs ++ ys)) refl λ m. blocks-end n (drop m xs) ys
+  blocks-end zero c xs ys l w e = absurd (omega arith)
+  blocks-end (suc n) c xs ys l w e = go (blockRead blockP c (xs ++ ys)) refl λ m d. blocks-end n d (drop m xs) ys
     where
-      go : (r : BlockRead) → blockRead blockP (xs ++ ys) ≡ r
-          → ((m : ℕ) → length (drop m xs ++ ys) < n → isWhole (pieces n (drop m xs ++ ys)) ≡ true → extent (pieces n (drop m xs ++ ys)) ≡ length (drop m xs) → ends (drop m xs) ≡ true)
+      go : (r : BlockRead) → blockRead blockP c (xs ++ ys) ≡ r
+          → ((m d : ℕ) → length (drop m xs ++ ys) < n → isWhole (pieces n d (drop m xs ++ ys)) ≡ true → extent (pieces n d (drop m xs ++ ys)) ≡ length (drop m xs) → ends (drop m xs) ≡ true)
           → ends xs ≡ true
-      go (block m ws) t again =
-          let v : isWhole (pieces n (drop m (xs ++ ys))) ≡ true = rw (t, isWhole) at w in
-          let u : m + extent (pieces n (drop m (xs ++ ys))) ≡ length xs = rw (t, extent) at e in
-          let d : drop m (xs ++ ys) ≡ drop m xs ++ ys = drop-append-le m xs ys (omega arith) in
-          let v2 : isWhole (pieces n (drop m xs ++ ys)) ≡ true = rw d at v in
-          let u2 : m + extent (pieces n (drop m xs ++ ys)) ≡ length xs = rw d at u in
-          ends-drop m xs (again m (fewer n m xs ys ws (block-is (run blockP 0 (xs ++ ys)) m ws t) (omega arith) l) v2 (omega (arith, u2, length-drop m xs)))
+      go (block m d ws) t again =
+          let v : isWhole (pieces n d (drop m (xs ++ ys))) ≡ true = rw (t, isWhole) at w in
+          let u : m + extent (pieces n d (drop m (xs ++ ys))) ≡ length xs = rw (t, extent) at e in
+          let o : drop m (xs ++ ys) ≡ drop m xs ++ ys = drop-append-le m xs ys (omega arith) in
+          let v2 : isWhole (pieces n d (drop m xs ++ ys)) ≡ true = rw o at v in
+          let u2 : m + extent (pieces n d (drop m xs ++ ys)) ≡ length xs = rw o at u in
+          let b = block-is (run (blockP c) 0 (xs ++ ys)) m d ws t in
+          ends-drop m xs (again m d (fewer n m c xs ys (b .0) (b .1) (omega arith) l) v2 (omega (arith, u2, length-drop m xs)))
       go (tail m) t again =
           let u : m + 0 ≡ length xs = rw (t, extent) at e in
-          let c = tail-is (run blockP 0 (xs ++ ys)) m t in
-          closed-ends blockP xs ys m (c .0) (c .1) (omega arith)
+          let b = tail-is (run (blockP c) 0 (xs ++ ys)) m t in
+          closed-ends (blockP c) xs ys m (b .0) (b .1) (omega arith)
       go (badBlock q p) t again = let v : _≡_ {A = Bool} false true = rw (t, isWhole) at w in let z : _≡_ {A = ℕ} 0 1 = cc in absurd (omega arith)
 
   -- Blocks and tail.
-  blocks-same : (n m : ℕ) (xs ys zs : List ℕ) → length (xs ++ ys) < n → length (xs ++ zs) < m → isWhole (pieces n (xs ++ ys)) ≡ true → extent (pieces n (xs ++ ys)) ≡ length xs
-      → pieces m (xs ++ zs) ≡ pieces n (xs ++ ys)
+  blocks-same : (n m c : ℕ) (xs ys zs : List ℕ) → length (xs ++ ys) < n → length (xs ++ zs) < m → isWhole (pieces n c (xs ++ ys)) ≡ true → extent (pieces n c (xs ++ ys)) ≡ length xs
+      → pieces m c (xs ++ zs) ≡ pieces n c (xs ++ ys)
   unfolding blocksIn isWhole extent blockRead
-  blocks-same zero m xs ys zs l k w e = absurd (omega arith)
-  blocks-same (suc n) zero xs ys zs l k w e = absurd (omega arith)
-  blocks-same (suc n) (suc m) xs ys zs l k w e = go (blockRead blockP (xs ++ ys)) refl λ j. blocks-same n m (drop j xs) ys zs
+  blocks-same zero m c xs ys zs l k w e = absurd (omega arith)
+  blocks-same (suc n) zero c xs ys zs l k w e = absurd (omega arith)
+  blocks-same (suc n) (suc m) c xs ys zs l k w e = go (blockRead blockP c (xs ++ ys)) refl λ j d. blocks-same n m d (drop j xs) ys zs
     where
-      go : (r : BlockRead) → blockRead blockP (xs ++ ys) ≡ r
-          → ((j : ℕ) → length (drop j xs ++ ys) < n → length (drop j xs ++ zs) < m → isWhole (pieces n (drop j xs ++ ys)) ≡ true → extent (pieces n (drop j xs ++ ys)) ≡ length (drop j xs)
-          → pieces m (drop j xs ++ zs) ≡ pieces n (drop j xs ++ ys))
-          → pieces (suc m) (xs ++ zs) ≡ pieces (suc n) (xs ++ ys)
-      go (block j ws) t again =
-          let v : isWhole (pieces n (drop j (xs ++ ys))) ≡ true = rw (t, isWhole) at w in
-          let u : j + extent (pieces n (drop j (xs ++ ys))) ≡ length xs = rw (t, extent) at e in
-          let d : drop j (xs ++ ys) ≡ drop j xs ++ ys = drop-append-le j xs ys (omega arith) in
-          let d2 : drop j (xs ++ zs) ≡ drop j xs ++ zs = drop-append-le j xs zs (omega arith) in
-          let v2 : isWhole (pieces n (drop j xs ++ ys)) ≡ true = rw d at v in
-          let u2 : j + extent (pieces n (drop j xs ++ ys)) ≡ length xs = rw d at u in
-          let x : extent (pieces n (drop j xs ++ ys)) ≡ length (drop j xs) = omega (arith, u2, length-drop j xs) in
-          let h : run blockP 0 (xs ++ ys) ≡ ok ws j = block-is (run blockP 0 (xs ++ ys)) j ws t in
-          let f : length (drop j xs ++ ys) < n = fewer n j xs ys ws h (omega arith) l in
-          let r : run blockP 0 (xs ++ zs) ≡ run blockP 0 (xs ++ ys) = local blockP 0 j xs ys zs (rw (h, zero-add j)) (blocks-end n (drop j xs) ys f v2 x) in
-          let g : length (drop j xs ++ zs) < m = fewer m j xs zs ws (r ∙ h) (omega arith) k in
-          let t2 : blockRead blockP (xs ++ zs) ≡ block j ws = ap blockOf r ∙ t in
-          let y : pieces m (drop j xs ++ zs) ≡ pieces n (drop j xs ++ ys) = again j f g v2 x in
-          rw (blocksIn, t, t2, d, d2) (ap (item j ws) y)
+      go : (r : BlockRead) → blockRead blockP c (xs ++ ys) ≡ r
+          → ((j d : ℕ) → length (drop j xs ++ ys) < n → length (drop j xs ++ zs) < m → isWhole (pieces n d (drop j xs ++ ys)) ≡ true → extent (pieces n d (drop j xs ++ ys)) ≡ length (drop j xs)
+          → pieces m d (drop j xs ++ zs) ≡ pieces n d (drop j xs ++ ys))
+          → pieces (suc m) c (xs ++ zs) ≡ pieces (suc n) c (xs ++ ys)
+      go (block j d ws) t again =
+          let v : isWhole (pieces n d (drop j (xs ++ ys))) ≡ true = rw (t, isWhole) at w in
+          let u : j + extent (pieces n d (drop j (xs ++ ys))) ≡ length xs = rw (t, extent) at e in
+          let o : drop j (xs ++ ys) ≡ drop j xs ++ ys = drop-append-le j xs ys (omega arith) in
+          let o2 : drop j (xs ++ zs) ≡ drop j xs ++ zs = drop-append-le j xs zs (omega arith) in
+          let v2 : isWhole (pieces n d (drop j xs ++ ys)) ≡ true = rw o at v in
+          let u2 : j + extent (pieces n d (drop j xs ++ ys)) ≡ length xs = rw o at u in
+          let x : extent (pieces n d (drop j xs ++ ys)) ≡ length (drop j xs) = omega (arith, u2, length-drop j xs) in
+          let b = block-is (run (blockP c) 0 (xs ++ ys)) j d ws t in
+          let f : length (drop j xs ++ ys) < n = fewer n j c xs ys (b .0) (b .1) (omega arith) l in
+          let r : run (blockP c) 0 (xs ++ zs) ≡ run (blockP c) 0 (xs ++ ys) = local (blockP c) 0 j xs ys zs (rw (b .1, zero-add j)) (blocks-end n d (drop j xs) ys f v2 x) in
+          let g : length (drop j xs ++ zs) < m = fewer m j c xs zs (b .0) (r ∙ b .1) (omega arith) k in
+          let t2 : blockRead blockP c (xs ++ zs) ≡ block j d ws = ap blockOf r ∙ t in
+          let y : pieces m d (drop j xs ++ zs) ≡ pieces n d (drop j xs ++ ys) = again j d f g v2 x in
+          rw (blocksIn, t, t2, o, o2) (ap (item j c ws) y)
       go (tail j) t again =
           let u : j + 0 ≡ length xs = rw (t, extent) at e in
-          let c = tail-is (run blockP 0 (xs ++ ys)) j t in
-          let t2 : blockRead blockP (xs ++ zs) ≡ tail j = ap blockOf (closed-local blockP xs ys zs j (c .0) (c .1) (omega arith)) ∙ t in
+          let b = tail-is (run (blockP c) 0 (xs ++ ys)) j t in
+          let t2 : blockRead blockP c (xs ++ zs) ≡ tail j = ap blockOf (closed-local (blockP c) xs ys zs j (b .0) (b .1) (omega arith)) ∙ t in
           rw (blocksIn, t, t2)
       go (badBlock q p) t again = let v : _≡_ {A = Bool} false true = rw (t, isWhole) at w in let z : _≡_ {A = ℕ} 0 1 = cc in absurd (omega arith)
 
@@ -103,17 +104,18 @@ module _ (headP blockP : Prog (List ℕ)) (moves : (s : List ℕ) (e : ℕ) (ws 
   reading-same xs ys zs w e = go (headRead headP (xs ++ ys)) refl
     where
       go : (r : HeadRead) → headRead headP (xs ++ ys) ≡ r → reading (headRead headP) (blockRead blockP) (xs ++ zs) ≡ reading (headRead headP) (blockRead blockP) (xs ++ ys)
-      go (head j ws) t =
-          let v : isWhole (blocks (headRead headP) (blockRead blockP) (drop j (xs ++ ys))) ≡ true = rw (t, isWhole) at w in
-          let u : j + extent (blocks (headRead headP) (blockRead blockP) (drop j (xs ++ ys))) ≡ length xs = rw (t, extent) at e in
-          let d : drop j (xs ++ ys) ≡ drop j xs ++ ys = drop-append-le j xs ys (omega arith) in
-          let d2 : drop j (xs ++ zs) ≡ drop j xs ++ zs = drop-append-le j xs zs (omega arith) in
-          let v2 : isWhole (pieces (suc (length (drop j xs ++ ys))) (drop j xs ++ ys)) ≡ true = rw d at v in
-          let u2 : j + extent (pieces (suc (length (drop j xs ++ ys))) (drop j xs ++ ys)) ≡ length xs = rw d at u in
-          let t2 : headRead headP (xs ++ zs) ≡ head j ws = ap headOf (closed-local headP xs ys zs j ws (head-is (run headP 0 (xs ++ ys)) j ws t) (omega arith)) ∙ t in
-          let y : pieces (suc (length (drop j xs ++ zs))) (drop j xs ++ zs) ≡ pieces (suc (length (drop j xs ++ ys))) (drop j xs ++ ys) =
-          blocks-same (suc (length (drop j xs ++ ys))) (suc (length (drop j xs ++ zs))) (drop j xs) ys zs (omega arith) (omega arith) v2 (omega (arith, u2, length-drop j xs)) in
-          rw (reading, t, t2, d, d2) (ap (item j ws) y)
+      go (head j d ws) t =
+          let v : isWhole (blocks (headRead headP) (blockRead blockP) d (drop j (xs ++ ys))) ≡ true = rw (t, isWhole) at w in
+          let u : j + extent (blocks (headRead headP) (blockRead blockP) d (drop j (xs ++ ys))) ≡ length xs = rw (t, extent) at e in
+          let o : drop j (xs ++ ys) ≡ drop j xs ++ ys = drop-append-le j xs ys (omega arith) in
+          let o2 : drop j (xs ++ zs) ≡ drop j xs ++ zs = drop-append-le j xs zs (omega arith) in
+          let v2 : isWhole (pieces (suc (length (drop j xs ++ ys))) d (drop j xs ++ ys)) ≡ true = rw o at v in
+          let u2 : j + extent (pieces (suc (length (drop j xs ++ ys))) d (drop j xs ++ ys)) ≡ length xs = rw o at u in
+          let b = head-is (run headP 0 (xs ++ ys)) j d ws t in
+          let t2 : headRead headP (xs ++ zs) ≡ head j d ws = ap headOf (closed-local headP xs ys zs j (b .0) (b .1) (omega arith)) ∙ t in
+          let y : pieces (suc (length (drop j xs ++ zs))) d (drop j xs ++ zs) ≡ pieces (suc (length (drop j xs ++ ys))) d (drop j xs ++ ys) =
+          blocks-same (suc (length (drop j xs ++ ys))) (suc (length (drop j xs ++ zs))) d (drop j xs) ys zs (omega arith) (omega arith) v2 (omega (arith, u2, length-drop j xs)) in
+          rw (reading, t, t2, o, o2) (ap (item j 0 ws) y)
       go (badHead q p) t = let v : _≡_ {A = Bool} false true = rw (t, isWhole) at w in let z : _≡_ {A = ℕ} 0 1 = cc in absurd (omega arith)
 
 -- A function whose closing brace ends xs reads the same whatever stands behind it, where questions 1 and 2 let both texts through.

@@ -8,3 +8,4 @@ pub mod Behind
 pub mod Room
 pub mod Afternoon
 pub mod Order
+pub mod Counters

@@ -19,14 +19,14 @@ count-map : {A B : Type 0} (f : A → B) (r : Run A) → countRun (mapRun f r) �
 unfolding mapRun countRun
 count-map f done = refl
 count-map f (stop q p) = refl
-count-map f (item e a r) = ap suc (count-map f r)
+count-map f (item e c a r) = ap suc (count-map f r)
 
 same-report : (ws vs dir : List ℕ) (k : ℕ) (v : Verdict) (r all : Run Source) → reportOf (leaveAgain ws dir v k r all) ≡ reportOf (leaveAgain vs dir v k r all)
 unfolding reportOf leaveAgain leave
 same-report ws vs dir k fine r all = rw (count-map (sourceWords ws) all, count-map (sourceWords vs) all)
 same-report ws vs dir k (refused q p) r all = refl
 
-module _ (headAt : List ℕ → HeadRead) (blockAt : List ℕ → BlockRead) where
+module _ (headAt : List ℕ → HeadRead) (blockAt : ℕ → List ℕ → BlockRead) where
   same-olds : (ws vs dir older newer : List ℕ) → length ws ≡ length vs → (o : Option (List Old))
       → reportOf (rereadOf headAt blockAt ws dir older newer o) ≡ reportOf (rereadOf headAt blockAt vs dir older newer o)
   unfolding rereadOf

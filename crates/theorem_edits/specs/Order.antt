@@ -5,11 +5,12 @@ use mathlib.Core.Path.{_≡_, refl, sym, ap, _∙_}
 use mathlib.Core.Bool.{Bool, true, false}
 use mathlib.Core.Option.{none, some}
 use mathlib.Core.List.{List, [], _∷_, _++_, append-assoc}
-use Prim.Native.Nat.{ℕ, zero, suc, _+_, _-_, _≤_, _<_}
+use Prim.Native.Nat.{ℕ, zero, suc, _+_, _-_, _*_, _≤_, _<_}
 use native.Mathlib.Omega.{arith}
 use lib.Dec.{leb}
-use lib.ListN.{length, take, drop, length-append, length-drop, take-append-drop}
+use lib.ListN.{length, take, drop, getD, length-append, length-drop, take-append-drop}
 use lib.Seq.{length-take-le, drop-append-le, take-append-le, take-take, drop-drop, take-at, drop-at}
+use Rattle.records.specs.Limits.{entryWords}
 use Rattle.records.specs.Words.{hi, lo}
 use Rattle.records.specs.Pieces.{Old, chain, olds, left, count, leftOf}
 use Rattle.grammar.specs.Function.{readingOf, rereadingOf}
@@ -32,16 +33,10 @@ behind first e = record { at = e .at - first .many + length (first .bytes); many
 
 -- Where piece k starts in the text, and where it ends, by its entry in the directory.
 unfoldable pub startOf : List ℕ → ℕ → ℕ
-startOf [] k = 0
-startOf (x ∷ []) k = 0
-startOf (x ∷ y ∷ dir) zero = hi x
-startOf (x ∷ y ∷ dir) (suc k) = startOf dir k
+startOf dir k = hi (getD dir (k * entryWords) 0)
 
 unfoldable pub endOf : List ℕ → ℕ → ℕ
-endOf [] k = 0
-endOf (x ∷ []) k = 0
-endOf (x ∷ y ∷ dir) zero = hi x + lo x
-endOf (x ∷ y ∷ dir) (suc k) = endOf dir k
+endOf dir k = hi (getD dir (k * entryWords) 0) + lo (getD dir (k * entryWords) 0)
 
 -- "Inside" block k, which is neither head nor tail: the bytes that are replaced are bytes of that piece, its space and comments behind included. What
 -- comes in their place is free: the block may become two, or one with the next.
@@ -86,32 +81,38 @@ one-text a b text h l =
     let two : F ++ (b .bytes ++ S) ≡ take (a .at) (T ++ (b .bytes ++ S)) ++ (a .bytes ++ drop (a .at + a .many) (T ++ (b .bytes ++ S))) = rw (before, past) (simp append-assoc) in
     rw front one ∙ two
 
+-- The entry of a piece, behind that of the one before it.
+next-entry : (x y z : ℕ) (dir : List ℕ) (k : ℕ) → getD (x ∷ y ∷ z ∷ dir) (suc k * entryWords) 0 ≡ getD dir (k * entryWords) 0
+next-entry x y z dir k = let e : suc k * entryWords ≡ suc (suc (suc (k * entryWords))) = omega arith in ap (λ (i : ℕ). getD (x ∷ y ∷ z ∷ dir) i 0) e
+
 -- Pieces stand one behind the other: each starts behind those before it, and ends inside the text.
 in-text : (T W n pos at : ℕ) (dir : List ℕ) (os : List Old) → chain T W n pos at dir ≡ some os → (k : ℕ) → k < n → (pos ≤ startOf dir k) × (endOf dir k ≤ T)
 unfolding chain startOf endOf
 in-text T W zero pos at dir os h k l = absurd (omega arith)
 in-text T W (suc n) pos at [] os h k l = let z : _≡_ {A = ℕ} 0 1 = cc in absurd (omega arith)
 in-text T W (suc n) pos at (x ∷ []) os h k l = let z : _≡_ {A = ℕ} 0 1 = cc in absurd (omega arith)
-in-text T W (suc n) pos at (x ∷ y ∷ dir) os h zero l =
-    let c : Step T W n pos at x y dir os = step T W n pos at x y dir os h in
+in-text T W (suc n) pos at (x ∷ y ∷ []) os h k l = let z : _≡_ {A = ℕ} 0 1 = cc in absurd (omega arith)
+in-text T W (suc n) pos at (x ∷ y ∷ z ∷ dir) os h zero l =
+    let c : Step T W n pos at x y z dir os = step T W n pos at x y z dir os h in
     (omega (arith, c .start), omega (arith, c .start, c .in-text))
-in-text T W (suc n) pos at (x ∷ y ∷ dir) os h (suc k) l =
-    let c : Step T W n pos at x y dir os = step T W n pos at x y dir os h in
+in-text T W (suc n) pos at (x ∷ y ∷ z ∷ dir) os h (suc k) l =
+    let c : Step T W n pos at x y z dir os = step T W n pos at x y z dir os h in
     let i : (pos + lo x ≤ startOf dir k) × (endOf dir k ≤ T) = in-text T W n (pos + lo x) (at + lo y) dir (c .others) (c .rest-is) k (omega arith) in
-    (omega (arith, i .0), i .1)
+    rw (next-entry x y z dir k) (omega (arith, i .0), i .1)
 
 in-order : (T W n pos at : ℕ) (dir : List ℕ) (os : List Old) → chain T W n pos at dir ≡ some os → (i j : ℕ) → i < j → j < n → endOf dir i ≤ startOf dir j
 unfolding chain startOf endOf
 in-order T W zero pos at dir os h i j l m = absurd (omega arith)
 in-order T W (suc n) pos at [] os h i j l m = let z : _≡_ {A = ℕ} 0 1 = cc in absurd (omega arith)
 in-order T W (suc n) pos at (x ∷ []) os h i j l m = let z : _≡_ {A = ℕ} 0 1 = cc in absurd (omega arith)
-in-order T W (suc n) pos at (x ∷ y ∷ dir) os h i zero l m = absurd (omega arith)
-in-order T W (suc n) pos at (x ∷ y ∷ dir) os h zero (suc j) l m =
-    let c : Step T W n pos at x y dir os = step T W n pos at x y dir os h in
-    omega (arith, c .start, in-text T W n (pos + lo x) (at + lo y) dir (c .others) (c .rest-is) j (omega arith) .0)
-in-order T W (suc n) pos at (x ∷ y ∷ dir) os h (suc i) (suc j) l m =
-    let c : Step T W n pos at x y dir os = step T W n pos at x y dir os h in
-    in-order T W n (pos + lo x) (at + lo y) dir (c .others) (c .rest-is) i j (omega arith) (omega arith)
+in-order T W (suc n) pos at (x ∷ y ∷ []) os h i j l m = let z : _≡_ {A = ℕ} 0 1 = cc in absurd (omega arith)
+in-order T W (suc n) pos at (x ∷ y ∷ z ∷ dir) os h i zero l m = absurd (omega arith)
+in-order T W (suc n) pos at (x ∷ y ∷ z ∷ dir) os h zero (suc j) l m =
+    let c : Step T W n pos at x y z dir os = step T W n pos at x y z dir os h in
+    rw (next-entry x y z dir j) (omega (arith, c .start, in-text T W n (pos + lo x) (at + lo y) dir (c .others) (c .rest-is) j (omega arith) .0))
+in-order T W (suc n) pos at (x ∷ y ∷ z ∷ dir) os h (suc i) (suc j) l m =
+    let c : Step T W n pos at x y z dir os = step T W n pos at x y z dir os h in
+    rw (next-entry x y z dir i, next-entry x y z dir j) (in-order T W n (pos + lo x) (at + lo y) dir (c .others) (c .rest-is) i j (omega arith) (omega arith))
 
 olds-chain : (T W n : ℕ) (dir : List ℕ) (os : List Old) → olds T W n dir ≡ some os → chain T W n 0 0 dir ≡ some os
 unfolding olds

@@ -10,7 +10,7 @@ use lib.Dec.{ltb, leb}
 use lib.ListN.{length, replicate, length-append, replicate-append-replicate}
 use borrow.Author.Tests.{leb-true, ltb-true, le-leb, lt-ltb}
 use Rattle.program.specs.Local.{and-left}
-use Rattle.records.specs.Limits.{halfLimit}
+use Rattle.records.specs.Limits.{halfLimit, entryWords}
 use Rattle.records.specs.Pieces.{HeadRead, BlockRead, Run, done, stop, item, mapRun, Verdict, fine, refused, judge, pad, allWords, entries, countRun, count, left, refusedAt, leave, andThen, textAsked, reading, fullVerdict, full}
 use Rattle.grammar.specs.Function.{headAt, blockAt, readingOf}
 
@@ -22,21 +22,21 @@ not-fine : {A : Type 0} (q p : ℕ) → refused q p ≡ fine → A
 not-fine q p h = let z : _≡_ {A = ℕ} 0 1 = cc in absurd (omega arith)
 
 -- what a piece was asked, where the answer is yes
-pub record Yes (words dir i pos at e n : ℕ) (r : Run ℕ) : Type 0 where
+pub record Yes (words dir i pos at e c n : ℕ) (r : Run ℕ) : Type 0 where
   pub fits : at + n ≤ words
   pub below : at + n < halfLimit
-  pub entry : i * 2 + 2 ≤ dir
+  pub entry : i * entryWords + entryWords ≤ dir
   pub rest : judge words dir (suc i) (pos + e) (at + n) r ≡ fine
 
-yes : (words dir i pos at e n : ℕ) (r : Run ℕ) → judge words dir i pos at (item e n r) ≡ fine → Yes words dir i pos at e n r
+yes : (words dir i pos at e c n : ℕ) (r : Run ℕ) → judge words dir i pos at (item e c n r) ≡ fine → Yes words dir i pos at e c n r
 unfolding judge
-yes words dir i pos at e n r h = go (leb (at + n) words && ltb (at + n) halfLimit) refl (leb (i * 2 + 2) dir) refl
+yes words dir i pos at e c n r h = go (leb (at + n) words && ltb (at + n) halfLimit) refl (leb (i * entryWords + entryWords) dir) refl
   where
-    go : (s : Bool) → (leb (at + n) words && ltb (at + n) halfLimit) ≡ s → (t : Bool) → leb (i * 2 + 2) dir ≡ t → Yes words dir i pos at e n r
+    go : (s : Bool) → (leb (at + n) words && ltb (at + n) halfLimit) ≡ s → (t : Bool) → leb (i * entryWords + entryWords) dir ≡ t → Yes words dir i pos at e c n r
     go true s true t = record {
       fits = leb-true (at + n) words (and-left (leb (at + n) words) (ltb (at + n) halfLimit) s);
       below = ltb-true (at + n) halfLimit (and-right (leb (at + n) words) (ltb (at + n) halfLimit) s);
-      entry = leb-true (i * 2 + 2) dir t;
+      entry = leb-true (i * entryWords + entryWords) dir t;
       rest = rw (judge, s, t) at h;
     }
     go true s false t = not-fine 21 (pos + e) (rw (judge, s, t) at h)
@@ -46,9 +46,9 @@ judge-more : (words dir k l i pos at : ℕ) (r : Run ℕ) → judge words dir i 
 unfolding judge
 judge-more words dir k l i pos at done h = refl
 judge-more words dir k l i pos at (stop q p) h = h
-judge-more words dir k l i pos at (item e n r) h =
-    let y = yes words dir i pos at e n r h in
-    rw (judge, le-leb (at + n) (words + k) (omega (arith, y .fits)), lt-ltb (at + n) halfLimit (y .below), le-leb (i * 2 + 2) (dir + l) (omega (arith, y .entry)))
+judge-more words dir k l i pos at (item e c n r) h =
+    let y = yes words dir i pos at e c n r h in
+    rw (judge, le-leb (at + n) (words + k) (omega (arith, y .fits)), lt-ltb (at + n) halfLimit (y .below), le-leb (i * entryWords + entryWords) (dir + l) (omega (arith, y .entry)))
     (judge-more words dir k l (suc i) (pos + e) (at + n) r (y .rest))
 
 -- What the pieces leave fits.
@@ -56,16 +56,16 @@ words-fit : (words dir i pos at : ℕ) (r : Run (List ℕ)) → at ≤ words →
 unfolding mapRun allWords
 words-fit words dir i pos at done l h = omega arith
 words-fit words dir i pos at (stop q p) l h = omega arith
-words-fit words dir i pos at (item e ws r) l h =
-    let y = yes words dir i pos at e (length ws) (mapRun length r) h in
+words-fit words dir i pos at (item e c ws r) l h =
+    let y = yes words dir i pos at e c (length ws) (mapRun length r) h in
     omega (arith, length-append ws (allWords r), words-fit words dir (suc i) (pos + e) (at + length ws) r (y .fits) (y .rest))
 
-entries-fit : (words dir i pos at : ℕ) (r : Run (List ℕ)) → i * 2 ≤ dir → judge words dir i pos at (mapRun length r) ≡ fine → i * 2 + length (entries pos at r) ≤ dir
+entries-fit : (words dir i pos at : ℕ) (r : Run (List ℕ)) → i * entryWords ≤ dir → judge words dir i pos at (mapRun length r) ≡ fine → i * entryWords + length (entries pos at r) ≤ dir
 unfolding mapRun entries
 entries-fit words dir i pos at done l h = omega arith
 entries-fit words dir i pos at (stop q p) l h = omega arith
-entries-fit words dir i pos at (item e ws r) l h =
-    let y = yes words dir i pos at e (length ws) (mapRun length r) h in
+entries-fit words dir i pos at (item e c ws r) l h =
+    let y = yes words dir i pos at e c (length ws) (mapRun length r) h in
     omega (arith, entries-fit words dir (suc i) (pos + e) (at + length ws) r (omega (arith, y .entry)) (y .rest))
 
 -- Zeros behind zeros.
@@ -75,7 +75,7 @@ pad-more n k xs l =
     let d : n + k - length xs ≡ n - length xs + k = omega arith in
     rw (d, sym (replicate-append-replicate {A = ℕ} (n - length xs) k 0)) (sym (append-assoc xs (replicate (n - length xs) 0) (replicate k 0)))
 
-module _ (headAt : List ℕ → HeadRead) (blockAt : List ℕ → BlockRead) where
+module _ (headAt : List ℕ → HeadRead) (blockAt : ℕ → List ℕ → BlockRead) where
   full-more : (words dir k l n : ℕ) (text ws ds : List ℕ) → full headAt blockAt words dir text ≡ left (count n) ws ds → full headAt blockAt (words + k) (dir + l) text ≡ left (count n) (ws ++ replicate k 0) (ds ++ replicate l 0)
   unfolding full fullVerdict andThen leave
   full-more words dir k l n text ws ds h = go (textAsked text) refl (judge words dir 0 0 0 (mapRun length (reading headAt blockAt text))) refl

@@ -1,44 +1,53 @@
--- Programs whose refusals lie in the text or one past its end, with a number of 01's: what this asks of each step, and how programs are put together.
+-- Programs whose refusals lie in the text or one past its end, with a number of 01's or 26, and whose counter stays in its bounds: what this asks of
+-- each step, and how programs are put together.
 -- Assumes nothing.
 use mathlib.Core.Path.{_≡_, refl, sym, subst}
-use mathlib.Core.Bool.{Bool, true, false, _&&_, not}
+use mathlib.Core.Bool.{Bool, true, false, _&&_, _||_, not}
 use mathlib.Core.List.{List, [], _∷_}
 use mathlib.Core.Option.{Option}
+use mathlib.Core.Logic.{_⊎_, inl, inr}
 use Prim.Native.Nat.{ℕ, suc, _+_, _-_, _≤_}
 use native.Mathlib.Omega.{arith}
-use lib.Dec.{T, leb, leb→le, eqb}
+use lib.Dec.{T, leb, leb→le, eqb, eqb→eq}
 use lib.ListN.{length, take, drop, length-drop}
 use Rattle.program.specs.Class.{isWord}
 use Rattle.program.specs.Prog.{Prog, ret, fail, look, eat, here, lead, scan, last, Res, ok, closed, no-at, run, _>>=_, byteAt, leadWord, scanLen}
 use Rattle.program.specs.Local.{scanLen-le, mono, next, run-bind}
+use Rattle.records.specs.Limits.{counterLimit}
+use Rattle.records.specs.Piece.{counterIn}
 
 pub and-right : (a b : Bool) → (a && b) ≡ true → b ≡ true
 and-right true b h = h
 and-right false b h = let z : _≡_ {A = ℕ} 0 1 = cc in absurd (omega arith)
 
--- 01's questions are 1 to 22; 0 is no refusal
+-- The questions are 1 to 22 (01) and 26 (02: M-106); 0 is no refusal.
 abbrev pub Question : ℕ → Type 0
-Question q = (1 ≤ q) × (q ≤ 22)
+Question q = (1 ≤ q) × ((q ≤ 22) ⊎ (q ≡ 26))
 
 -- the same as a test, which a numeral passes by computation
 abbrev pub asked : ℕ → Bool
-asked q = leb 1 q && leb q 22
+asked q = leb 1 q && (leb q 22 || eqb q 26)
 
 pub question : (q : ℕ) → T (asked q) → Question q
-question q t = go (leb 1 q) (leb→le 1 q) (leb→le q 22) t
+question q t = go (leb 1 q) (leb q 22) (eqb q 26) (leb→le 1 q) (leb→le q 22) (eqb→eq q 26) t
   where
-    go : (b : Bool) → (T b → 1 ≤ q) → (T (leb q 22) → q ≤ 22) → T (b && leb q 22) → Question q
-    go true l u t = (l tt, u t)
-    go false l u t = absurd t
+    go : (a b c : Bool) → (T a → 1 ≤ q) → (T b → q ≤ 22) → (T c → q ≡ 26) → T (a && (b || c)) → Question q
+    go true true c l u e t = (l tt, inl (u tt))
+    go true false c l u e t = (l tt, inr (e t))
+    go false b c l u e t = absurd t
 
 -- A refusal's number and place, where the text has n bytes. "two escape errors can put it one past the text's length"
 abbrev pub Near : ℕ → ℕ → ℕ → Type 0
 Near n q p = Question q × (p ≤ n + 1)
 
--- How a run may end there: what it gives has P, what it refuses is near.
+-- A piece that ends at its closing byte: question 22 asks this of the counter behind it.
+abbrev pub Low : List ℕ → Type 0
+Low l = counterIn l ≤ counterLimit
+
+-- How a run may end there: what it gives has P, what it ends a piece with is low, what it refuses is near.
 abbrev pub Sound : {A : Type 0} → ℕ → (A → Type 0) → Res A → Type 0
 Sound n P (ok a j) = P a
-Sound n P (closed ws j) = Unit {0}
+Sound n P (closed l j) = Low l
 Sound n P (no-at q p) = Near n q p
 
 -- Every run of a program ends so, where the text has n bytes and at least m of them are left. A step past the text's end would refuse with 0,
@@ -120,12 +129,12 @@ scans {f = f} {q = q} h =
     held λ i s l r.
     sound (h (take (scanLen f q s) s)) (i + scanLen f q s) (drop (scanLen f q s) s) (omega (arith, length-drop (scanLen f q s) s, scanLen-le f q s)) (omega arith)
 
-pub ends : {A : Type 0} {P : A → Type 0} {n m : ℕ} {b : ℕ} {ws : List ℕ} {f : Prog A} → Held n m P f → Held n m P (last b ws f)
+pub ends : {A : Type 0} {P : A → Type 0} {n m : ℕ} {b : ℕ} {ws : List ℕ} {f : Prog A} → Low ws → Held n m P f → Held n m P (last b ws f)
 unfolding run
-ends {P = P} {n = n} {m = m} {b = b} {ws = ws} {f = f} h = held go
+ends {P = P} {n = n} {m = m} {b = b} {ws = ws} {f = f} low h = held go
   where
     at : (t : Bool) (i : ℕ) (s : List ℕ) → Sound n P (run f i s) → Sound n P (elim t [ true ↦ closed ws (suc i) | false ↦ run f i s ])
-    at true i s a = tt
+    at true i s a = low
     at false i s a = a
 
     go : (i : ℕ) (s : List ℕ) → i + length s ≤ n → m ≤ length s → Sound n P (run (last b ws f) i s)
@@ -141,7 +150,7 @@ then-with {A} {B} {P} {Q} {n} {m} {f} {k} h g = held λ i s l r. subst (Sound n 
     go i s l (ok a j) e x =
         let o : (i ≤ j) × (j ≤ i + length s) = mono f i j s (rw e refl) in
         sound (g a x) j (drop (j - i) s) (omega (arith, length-drop (j - i) s)) (omega arith)
-    go i s l (closed ws j) e x = tt
+    go i s l (closed ws j) e x = x
     go i s l (no-at q p) e x = x
 
 pub then : {A B : Type 0} {Q : B → Type 0} {n m : ℕ} {f : Prog A} {k : A → Prog B} → Held n m Any f → ((a : A) → Inside n Q (k a)) → Held n m Q (f >>= k)

@@ -10,13 +10,15 @@ use Rattle.records.specs.Words.{header}
 use Rattle.records.specs.Kinds.{kind, IntConst}
 use Rattle.records.specs.Limits.{turns, depthLimit, listTurns, listDepth}
 use Rattle.grammar.specs.Lexer.{sameWord, rank, spelled}
+use Rattle.grammar.specs.Counter.{Counted}
 use Rattle.grammar.specs.Attributes.{convFlags}
 use Rattle.grammar.specs.Types.{TypeOut, plain, opened}
 use Rattle.grammar.specs.Values.{parseTypedVal}
-use Rattle.grammar.specs.Instructions.{type, value, labelNode, parseOperand, clausesIn, parseTrailing, ending, orderings, skipAtomicOrdering, twoOperands, binary, unary, parseBin, parseFbin, parseFneg, noParen, parseConv, predicate, parseIcmp, parseFcmp, parseSelect, loadOperands, access, parseLoad, storeOperands, parseStore, pointerThenValue, parseCmpxchg, rmwOps, rmwOp, parseAtomicrmw, parseExtractvalue, parseFence, parseAlloca, gepInstIndices, parseGepInst, phiItems, parsePhi, parseFreeze, argItem, parseArgList, funcNode, callRest, callOf, parseCall, parseTailCall, parseRet, target, parseBr, caseInt, switchCases, parseSwitch, parseUnreachable, among, isWordThen, valueInst, plainInst}
-use Rattle.theorem_refusals.specs.Inside.{asked, Inside, Any, then, then-with, done, either}
-use Rattle.theorem_refusals.specs.Lexer.{in-refuse, in-eatWs, in-byteIf, in-byteAtIf, in-wordIf, in-rankIf, in-tokenIf, in-expectToken, in-expectKeyword, in-skipKeyword, in-skipOne, in-skipAll, in-readWord, in-parseLocalName, in-skipParens, in-skipMetadataRef}
+use Rattle.grammar.specs.Instructions.{type, value, labelNode, parseOperand, clausesIn, parseTrailing, ending, orderings, skipAtomicOrdering, twoOperands, binary, unary, parseBin, parseFbin, parseFneg, noParen, parseConv, predicate, parseIcmp, parseFcmp, parseSelect, loadOperands, access, parseLoad, storeOperands, parseStore, pointerThenValue, parseCmpxchg, rmwOps, rmwOp, parseAtomicrmw, parseExtractvalue, parseFence, parseAlloca, gepInstIndices, parseGepInst, phiItems, parsePhi, parseFreeze, argItem, parseArgList, funcNode, callRest, callOf, parseCall, parseTailCall, isVoid, numberedCall, parsePlainCall, parsePlainTailCall, parseRet, target, parseBr, caseInt, switchCases, parseSwitch, parseUnreachable, among, isWordThen, valueInst, uncounted, plainInst}
+use Rattle.theorem_refusals.specs.Inside.{asked, Inside, gives, Any, then, then-with, done, either}
+use Rattle.theorem_refusals.specs.Lexer.{in-refuse, in-place, in-eatWs, in-byteIf, in-byteAtIf, in-wordIf, in-rankIf, in-tokenIf, in-expectToken, in-expectKeyword, in-skipKeyword, in-skipOne, in-skipAll, in-readWord, in-parseLocalName, in-skipParens, in-skipMetadataRef}
 use Rattle.theorem_refusals.specs.Numbers.{in-parseInt}
+use Rattle.theorem_refusals.specs.Counter.{Counts, stays, in-takesNext}
 use Rattle.theorem_refusals.specs.Attributes.{in-skipAttrs, in-skipCallCconv, in-skipArithFlags, in-skipFastMathFlags}
 use Rattle.theorem_refusals.specs.Types.{in-whole, in-child, in-typeChild, in-dotsList, in-parseTypeList, in-parseType}
 use Rattle.theorem_refusals.specs.Values.{in-gepFlags, in-pairChild, in-parseValue, in-parseTypedVal}
@@ -290,11 +292,29 @@ in-valueInst dest w =
     (in-among w _ (λ r. in-parseTailCall dest)
     (in-refuse 9 tt)))))))))))))))))
 
-pub in-plainInst : {n : ℕ} {g : Prog (List ℕ)} (w : List ℕ) → Inside n Any g → Inside n Any (plainInst w g)
+in-numberedCall : {n : ℕ} (c : ℕ) (t : TypeOut) (ws : List ℕ) → Inside n (Counts c) (numberedCall c t ws)
+unfolding numberedCall
+in-numberedCall c t ws =
+    then-with in-place λ j l. then-with (either (isVoid t) (gives (stays c)) (in-takesNext j c l)) λ d h. gives h
+
+in-parsePlainCall : {n : ℕ} (c : ℕ) → Inside n (Counts c) (parsePlainCall c)
+unfolding parsePlainCall
+in-parsePlainCall c =
+    then in-skipCallCconv λ _. then in-skipAttrs λ _. then-with (in-parseType depthLimit) λ t o. then (in-callOf 0 t) λ ws. in-numberedCall c t ws
+
+in-parsePlainTailCall : {n : ℕ} (c : ℕ) → Inside n (Counts c) (parsePlainTailCall c)
+unfolding parsePlainTailCall
+in-parsePlainTailCall c = then (in-expectKeyword _) λ _. in-parsePlainCall c
+
+in-uncounted : {n : ℕ} {f : Prog (List ℕ)} (c : ℕ) → Inside n Any f → Inside n (Counts c) (uncounted c f)
+unfolding uncounted
+in-uncounted c h = then h λ ws. gives (stays c)
+
+pub in-plainInst : {n : ℕ} {g : Prog (Counted (List ℕ))} (c : ℕ) (w : List ℕ) → Inside n (Counts c) g → Inside n (Counts c) (plainInst c w g)
 unfolding plainInst
-in-plainInst w h =
-    in-isWordThen w _ in-parseStore
-    (in-isWordThen w _ in-parseFence
-    (in-isWordThen w _ (in-parseCall 0)
-    (in-among w _ (λ r. in-parseTailCall 0)
+in-plainInst c w h =
+    in-isWordThen w _ (in-uncounted c in-parseStore)
+    (in-isWordThen w _ (in-uncounted c in-parseFence)
+    (in-isWordThen w _ (in-parsePlainCall c)
+    (in-among w _ (λ r. in-parsePlainTailCall c)
     h)))

@@ -108,7 +108,7 @@ pub in-readWord : {n : ℕ} → Inside n Any readWord
 unfolding readWord
 in-readWord = in-byteIf 34 (scans in-quoteEnd) (scans λ w. done)
 
-in-nameOf : {n : ℕ} (i : ℕ) (w : Word) → Inside n Any (nameOf i w)
+pub in-nameOf : {n : ℕ} (i : ℕ) (w : Word) → Inside n Any (nameOf i w)
 unfolding nameOf
 in-nameOf i w = either (isEmptyWord w) (in-refuse 3 tt) done
 

@@ -1,6 +1,8 @@
+pub mod Common
 pub mod Inside
 pub mod Lexer
 pub mod Numbers
+pub mod Counter
 pub mod Attributes
 pub mod Types
 pub mod Values

@@ -12,28 +12,29 @@ use lib.ListN.{length, take, drop, length-drop}
 use borrow.Author.Tests.{ltb-true, leb-true, leb-false, eqb-true}
 use Rattle.program.specs.Prog.{ends}
 use Rattle.program.specs.Local.{and-left}
-use Rattle.records.specs.Pieces.{HeadRead, head, badHead, BlockRead, block, tail, badBlock, Run, done, stop, item, mapRun, Verdict, fine, refused, firstHigh, textAsked, judge, refusedAt, count, Left, left, leave, andThen, Old, old, consOld, chain, olds, common, closes, keptRest, keptFront, Source, fresh, size, before, oldSizes, oldWords, from, fromBlocks, joins, commonEnd, leftOf, leaveAgain, blocksIn, blocks, reading, fullVerdict, full, againIn, again, behindFront, keeps, rest, judgeAgain, rereadOf, reread}
-use Rattle.records.specs.Limits.{textLimit, byteLimit, halfLimit}
+use Rattle.records.specs.Pieces.{HeadRead, head, badHead, BlockRead, block, tail, badBlock, Run, done, stop, item, mapRun, Verdict, fine, refused, firstHigh, textAsked, judge, refusedAt, count, Left, left, leave, andThen, Old, old, consOld, chain, olds, common, closes, keptRest, keptFront, Source, fresh, size, before, oldSizes, oldWords, firstCounter, from, fromBlocks, joins, commonEnd, leftOf, leaveAgain, blocksIn, blocks, reading, fullVerdict, full, againIn, again, behindFront, keeps, rest, judgeAgain, rereadOf, reread}
+use Rattle.records.specs.Limits.{textLimit, byteLimit, halfLimit, counterLimit, entryWords}
 use Rattle.records.specs.Questions.{qLength, qAscii, qWords, qEntries, qOlder}
 use Rattle.records.specs.Words.{hi, lo}
-use Rattle.theorem_edits.specs.Law.{commonEnd-le, common-le-newer}
-use Rattle.theorem_refusals.specs.Inside.{and-right, Near}
+use Rattle.theorem_refusals.specs.Common.{commonEnd-le, common-le-newer}
+use Rattle.theorem_refusals.specs.Inside.{and-right, question, Near}
+use Rattle.theorem_refusals.specs.Counter.{From}
 
--- A piece, and a piece's refusal, in n bytes.
+-- A piece, and a piece's refusal, in n bytes; and the counter that it hands on, where c is the one at a block's start.
 abbrev pub HeadIn : ℕ → HeadRead → Type 0
-HeadIn n (head e ws) = e ≤ n
+HeadIn n (head e d ws) = (e ≤ n) × (d ≤ counterLimit)
 HeadIn n (badHead q p) = Near n q p
 
-abbrev pub BlockIn : ℕ → BlockRead → Type 0
-BlockIn n (block e ws) = e ≤ n
-BlockIn n (tail e) = e ≤ n
-BlockIn n (badBlock q p) = Near n q p
+abbrev pub BlockIn : (c n : ℕ) → BlockRead → Type 0
+BlockIn c n (block e d ws) = (e ≤ n) × From c d
+BlockIn c n (tail e) = e ≤ n
+BlockIn c n (badBlock q p) = Near n q p
 
 -- Pieces in order, and what they end with.
 abbrev pub RunIn : {A : Type 0} → ℕ → Run A → Type 0
 RunIn n done = Unit {0}
 RunIn n (stop q p) = Near n q p
-RunIn n (item e a r) = (e ≤ n) × RunIn (n - e) r
+RunIn n (item e c a r) = (e ≤ n) × RunIn (n - e) r
 
 abbrev pub VerdictIn : ℕ → Verdict → Type 0
 VerdictIn n fine = Unit {0}
@@ -48,7 +49,7 @@ map-in : {A B : Type 0} (f : A → B) (n : ℕ) (r : Run A) → RunIn n r → Ru
 unfolding mapRun
 map-in f n done h = tt
 map-in f n (stop q p) h = h
-map-in f n (item e a r) h = (h .0, map-in f (n - e) r (h .1))
+map-in f n (item e c a r) h = (h .0, map-in f (n - e) r (h .1))
 
 -- Questions 1 and 2.
 high-in : (i : ℕ) (s : List ℕ) → VerdictIn (i + length s) (firstHigh i s)
@@ -58,7 +59,7 @@ high-in i (x ∷ s) = go (leb x byteLimit) (let e : suc i + length s ≡ i + suc
   where
     go : (b : Bool) → VerdictIn (i + suc (length s)) (firstHigh (suc i) s) → VerdictIn (i + suc (length s)) (elim b [ true ↦ firstHigh (suc i) s | false ↦ refused qAscii i ])
     go true h = h
-    go false h = ((omega arith, omega arith), omega arith)
+    go false h = (question 2 tt, omega arith)
 
 text-in : (text : List ℕ) → VerdictIn (length text) (textAsked text)
 unfolding textAsked
@@ -66,15 +67,15 @@ text-in text = go (leb (length text) textLimit) refl
   where
     go : (b : Bool) → leb (length text) textLimit ≡ b → VerdictIn (length text) (elim b [ true ↦ firstHigh 0 text | false ↦ refused qLength textLimit ])
     go true e = let z : 0 + length text ≡ length text = zero-add (length text) in subst (λ (n : ℕ). VerdictIn n (firstHigh 0 text)) z (high-in 0 text)
-    go false e = ((omega arith, omega arith), omega (arith, leb-false (length text) textLimit e))
+    go false e = (question 1 tt, omega (arith, leb-false (length text) textLimit e))
 
 -- Questions 20 and 21, from `pos` on, where n bytes are left of a text of N.
 judge-in : (words dir i pos at n N : ℕ) (r : Run ℕ) → RunIn n r → pos + n ≤ N → VerdictIn N (judge words dir i pos at r)
 unfolding judge
 judge-in words dir i pos at n N done h l = tt
 judge-in words dir i pos at n N (stop q p) h l = let b : p ≤ n + 1 = h .1 in (h .0, omega arith)
-judge-in words dir i pos at n N (item e k r) h l =
-    go (leb (at + k) words && ltb (at + k) halfLimit) (leb (i * 2 + 2) dir) (judge-in words dir (suc i) (pos + e) (at + k) (n - e) N r (h .1) (omega arith))
+judge-in words dir i pos at n N (item e c k r) h l =
+    go (leb (at + k) words && ltb (at + k) halfLimit) (leb (i * entryWords + entryWords) dir) (judge-in words dir (suc i) (pos + e) (at + k) (n - e) N r (h .1) (omega arith))
   where
     fits : e ≤ n
     fits = h .0
@@ -82,8 +83,8 @@ judge-in words dir i pos at n N (item e k r) h l =
     go : (a b : Bool) → VerdictIn N (judge words dir (suc i) (pos + e) (at + k) r)
         → VerdictIn N (elim a [ true ↦ elim b [ true ↦ judge words dir (suc i) (pos + e) (at + k) r | false ↦ refused qEntries (pos + e) ] | false ↦ refused qWords (pos + e) ])
     go true true ih = ih
-    go true false ih = ((omega arith, omega arith), omega (arith, fits))
-    go false b ih = ((omega arith, omega arith), omega (arith, fits))
+    go true false ih = (question 21 tt, omega (arith, fits))
+    go false b ih = (question 20 tt, omega (arith, fits))
 
 and-in : (n : ℕ) (v w : Verdict) → VerdictIn n v → VerdictIn n w → VerdictIn n (andThen v w)
 unfolding andThen
@@ -101,24 +102,26 @@ leave-again-in words dir n fine k r all h = tt
 leave-again-in words dir n (refused q p) k r all h = h
 
 -- The older pieces fill no more than the older text.
-entry-sizes : (text pos e f k : ℕ) (b : Bool) (o : Option (List Old)) → (b ≡ true → pos + e ≤ text) → (pos + e ≤ text → (ps : List Old) → o ≡ some ps → pos + e + oldSizes ps ≤ text)
-    → (os : List Old) → elim b [ true ↦ consOld (old e f k) o | false ↦ none ] ≡ some os → pos + oldSizes os ≤ text
+entry-sizes : (text pos e f k m : ℕ) (b : Bool) (o : Option (List Old)) → (b ≡ true → pos + e ≤ text) → (pos + e ≤ text → (ps : List Old) → o ≡ some ps → pos + e + oldSizes ps ≤ text)
+    → (os : List Old) → elim b [ true ↦ consOld (old e f k m) o | false ↦ none ] ≡ some os → pos + oldSizes os ≤ text
 unfolding consOld oldSizes
-entry-sizes text pos e f k true none l h os t = let z : _≡_ {A = ℕ} 0 1 = cc in absurd (omega arith)
-entry-sizes text pos e f k true (some ps) l h os t = let w : old e f k ∷ ps ≡ os = cc in rw (sym w) (omega (arith, h (l refl) ps refl))
-entry-sizes text pos e f k false o l h os t = let z : _≡_ {A = ℕ} 0 1 = cc in absurd (omega arith)
+entry-sizes text pos e f k m true none l h os t = let z : _≡_ {A = ℕ} 0 1 = cc in absurd (omega arith)
+entry-sizes text pos e f k m true (some ps) l h os t = let w : old e f k m ∷ ps ≡ os = cc in rw (sym w) (omega (arith, h (l refl) ps refl))
+entry-sizes text pos e f k m false o l h os t = let z : _≡_ {A = ℕ} 0 1 = cc in absurd (omega arith)
 
 chain-sizes : (text words n pos at : ℕ) (dir : List ℕ) → pos ≤ text → (os : List Old) → chain text words n pos at dir ≡ some os → pos + oldSizes os ≤ text
 unfolding chain oldSizes
 chain-sizes text words zero pos at dir l os t = let w : [] ≡ os = cc in rw (sym w) (omega arith)
 chain-sizes text words (suc n) pos at [] l os t = let z : _≡_ {A = ℕ} 0 1 = cc in absurd (omega arith)
 chain-sizes text words (suc n) pos at (x ∷ []) l os t = let z : _≡_ {A = ℕ} 0 1 = cc in absurd (omega arith)
-chain-sizes text words (suc n) pos at (x ∷ y ∷ dir) l os t =
+chain-sizes text words (suc n) pos at (x ∷ y ∷ []) l os t = let z : _≡_ {A = ℕ} 0 1 = cc in absurd (omega arith)
+chain-sizes text words (suc n) pos at (x ∷ y ∷ m ∷ dir) l os t =
     let e : ℕ = lo x in
     let k : ℕ = lo y in
     let starts : Bool = eqb (hi x) pos && eqb (hi y) at in
-    entry-sizes text pos e at k (starts && leb (pos + e) text && leb (at + k) words) (chain text words n (pos + e) (at + k) dir)
-    (λ h. leb-true (pos + e) text (and-right starts _ (and-left (starts && leb (pos + e) text) _ h)))
+    let inside : Bool = starts && leb (pos + e) text in
+    entry-sizes text pos e at k m (inside && leb (at + k) words && leb m counterLimit) (chain text words n (pos + e) (at + k) dir)
+    (λ h. leb-true (pos + e) text (and-right starts _ (and-left inside _ (and-left (inside && leb (at + k) words) _ h))))
     (chain-sizes text words n (pos + e) (at + k) dir) os t
 
 olds-sizes : (text words n : ℕ) (dir : List ℕ) (os : List Old) → olds text words n dir ≡ some os → oldSizes os ≤ text
@@ -139,62 +142,63 @@ closes-le (suc e) (x ∷ s) h = omega (arith, closes-le e s h)
 kept-rest-le : (s : List ℕ) (os : List Old) → oldSizes (take (keptRest s os) os) ≤ length s
 unfolding keptRest oldSizes
 kept-rest-le s [] = omega arith
-kept-rest-le s (old e f n ∷ []) = go (ltb e (length s)) (ltb-true e (length s))
+kept-rest-le s (old e f n m ∷ []) = go (ltb e (length s)) (ltb-true e (length s))
   where
-    go : (b : Bool) → (b ≡ true → e < length s) → oldSizes (take (elim b [ true ↦ 1 | false ↦ 0 ]) (old e f n ∷ [])) ≤ length s
+    go : (b : Bool) → (b ≡ true → e < length s) → oldSizes (take (elim b [ true ↦ 1 | false ↦ 0 ]) (old e f n m ∷ [])) ≤ length s
     go true l = omega (arith, l refl)
     go false l = omega arith
-kept-rest-le s (old e f n ∷ o ∷ os) = go (closes (drop e s)) (closes-le e s) (kept-rest-le (drop e s) (o ∷ os))
+kept-rest-le s (old e f n m ∷ o ∷ os) = go (closes (drop e s)) (closes-le e s) (kept-rest-le (drop e s) (o ∷ os))
   where
     go : (b : Bool) → (b ≡ true → e ≤ length s) → oldSizes (take (keptRest (drop e s) (o ∷ os)) (o ∷ os)) ≤ length (drop e s)
-        → oldSizes (take (elim b [ true ↦ suc (keptRest (drop e s) (o ∷ os)) | false ↦ 0 ]) (old e f n ∷ o ∷ os)) ≤ length s
+        → oldSizes (take (elim b [ true ↦ suc (keptRest (drop e s) (o ∷ os)) | false ↦ 0 ]) (old e f n m ∷ o ∷ os)) ≤ length s
     go true l ih = omega (arith, l refl, length-drop e s)
     go false l ih = omega arith
 
 kept-front-le : (s : List ℕ) (os : List Old) → oldSizes (take (keptFront s os) os) ≤ length s
 unfolding keptFront oldSizes
 kept-front-le s [] = omega arith
-kept-front-le s (old e f n ∷ os) = go (ltb e (length s)) (ltb-true e (length s))
+kept-front-le s (old e f n m ∷ os) = go (ltb e (length s)) (ltb-true e (length s))
   where
-    go : (b : Bool) → (b ≡ true → e < length s) → oldSizes (take (elim b [ true ↦ suc (keptRest (drop e s) os) | false ↦ 0 ]) (old e f n ∷ os)) ≤ length s
+    go : (b : Bool) → (b ≡ true → e < length s) → oldSizes (take (elim b [ true ↦ suc (keptRest (drop e s) os) | false ↦ 0 ]) (old e f n m ∷ os)) ≤ length s
     go true l = omega (arith, l refl, length-drop e s, kept-rest-le (drop e s) os)
     go false l = omega arith
 
 -- Those kept behind fill no more than what is left of the newer text.
-from-sizes : (n target pos : ℕ) (os ps : List Old) → pos + oldSizes os ≤ n → from target pos os ≡ some ps → target + oldSizes ps ≤ n
+from-sizes : (n target d pos : ℕ) (os ps : List Old) → pos + oldSizes os ≤ n → from target d pos os ≡ some ps → target + oldSizes ps ≤ n
 unfolding from oldSizes
-from-sizes n target pos [] ps l t = let z : _≡_ {A = ℕ} 0 1 = cc in absurd (omega arith)
-from-sizes n target pos (old e f k ∷ os) ps l t = go (eqb pos target) (eqb-true pos target) (from-sizes n target (pos + e) os ps (omega arith)) t
+from-sizes n target d pos [] ps l t = let z : _≡_ {A = ℕ} 0 1 = cc in absurd (omega arith)
+from-sizes n target d pos (old e f k m ∷ os) ps l t =
+    go (eqb pos target && eqb m d) (λ h. eqb-true pos target (and-left (eqb pos target) (eqb m d) h)) (from-sizes n target d (pos + e) os ps (omega arith)) t
   where
-    go : (b : Bool) → (b ≡ true → pos ≡ target) → (from target (pos + e) os ≡ some ps → target + oldSizes ps ≤ n)
-        → elim b [ true ↦ some (old e f k ∷ os) | false ↦ from target (pos + e) os ] ≡ some ps → target + oldSizes ps ≤ n
-    go true h ih t = let w : old e f k ∷ os ≡ ps = cc in rw (sym w) (omega (arith, h refl))
+    go : (b : Bool) → (b ≡ true → pos ≡ target) → (from target d (pos + e) os ≡ some ps → target + oldSizes ps ≤ n)
+        → elim b [ true ↦ some (old e f k m ∷ os) | false ↦ from target d (pos + e) os ] ≡ some ps → target + oldSizes ps ≤ n
+    go true h ih t = let w : old e f k m ∷ os ≡ ps = cc in rw (sym w) (omega (arith, h refl))
     go false h ih t = ih t
 
-from-blocks-sizes : (n target : ℕ) (os ps : List Old) → oldSizes os ≤ n → fromBlocks target os ≡ some ps → target + oldSizes ps ≤ n
+from-blocks-sizes : (n target d : ℕ) (os ps : List Old) → oldSizes os ≤ n → fromBlocks target d os ≡ some ps → target + oldSizes ps ≤ n
 unfolding fromBlocks oldSizes
-from-blocks-sizes n target [] ps l t = let z : _≡_ {A = ℕ} 0 1 = cc in absurd (omega arith)
-from-blocks-sizes n target (old e f k ∷ os) ps l t = from-sizes n target e os ps l t
+from-blocks-sizes n target d [] ps l t = let z : _≡_ {A = ℕ} 0 1 = cc in absurd (omega arith)
+from-blocks-sizes n target d (old e f k m ∷ os) ps l t = from-sizes n target d e os ps l t
 
-joins-sizes : (c olen : ℕ) (os : List Old) (s : List ℕ) (ps : List Old) → c ≤ olen → oldSizes os ≤ olen → joins c olen os s ≡ some ps → oldSizes ps ≤ length s
+joins-sizes : (c olen : ℕ) (os : List Old) (d : ℕ) (s : List ℕ) (ps : List Old) → c ≤ olen → oldSizes os ≤ olen → joins c olen os d s ≡ some ps → oldSizes ps ≤ length s
 unfolding joins
-joins-sizes c olen os s ps l h t = go (leb (length s) c) (leb-true (length s) c) t
+joins-sizes c olen os d s ps l h t = go (leb (length s) c) (leb-true (length s) c) t
   where
-    go : (b : Bool) → (b ≡ true → length s ≤ c) → elim b [ true ↦ fromBlocks (olen - length s) os | false ↦ none ] ≡ some ps → oldSizes ps ≤ length s
-    go true k t = omega (arith, k refl, from-blocks-sizes olen (olen - length s) os ps h t)
+    go : (b : Bool) → (b ≡ true → length s ≤ c) → elim b [ true ↦ fromBlocks (olen - length s) d os | false ↦ none ] ≡ some ps → oldSizes ps ≤ length s
+    go true k t = omega (arith, k refl, from-blocks-sizes olen (olen - length s) d os ps h t)
     go false k t = let z : _≡_ {A = ℕ} 0 1 = cc in absurd (omega arith)
 
 before-in : (n : ℕ) (os : List Old) → oldSizes os ≤ n → RunIn n (before os done)
 unfolding before oldSizes
 before-in n [] h = tt
-before-in n (old e f k ∷ os) h = (omega arith, before-in (n - e) os (omega arith))
+before-in n (old e f k m ∷ os) h = (omega arith, before-in (n - e) os (omega arith))
 
 -- what joins, or what is read where nothing does
-abbrev joined : (c olen : ℕ) → List Old → List ℕ → Run Source → Run Source
-joined c olen os s r = elim (joins c olen os s) [ some ps ↦ before ps done | none ↦ r ]
+abbrev joined : (c olen : ℕ) → List Old → ℕ → List ℕ → Run Source → Run Source
+joined c olen os d s r = elim (joins c olen os d s) [ some ps ↦ before ps done | none ↦ r ]
 
-joined-in : (c olen : ℕ) (os : List Old) (s : List ℕ) (r : Run Source) → c ≤ olen → oldSizes os ≤ olen → RunIn (length s) r → RunIn (length s) (joined c olen os s r)
-joined-in c olen os s r l h k = go (joins c olen os s) (λ ps. joins-sizes c olen os s ps l h)
+joined-in : (c olen : ℕ) (os : List Old) (d : ℕ) (s : List ℕ) (r : Run Source) → c ≤ olen → oldSizes os ≤ olen → RunIn (length s) r → RunIn (length s) (joined c olen os d s r)
+joined-in c olen os d s r l h k = go (joins c olen os d s) (λ ps. joins-sizes c olen os d s ps l h)
   where
     go : (o : Option (List Old)) → ((ps : List Old) → o ≡ some ps → oldSizes ps ≤ length s) → RunIn {A = Source} (length s) (elim o [ some ps ↦ before ps done | none ↦ r ])
     go none j = k
@@ -205,16 +209,16 @@ behind : {A : Type 0} (e : ℕ) (s : List ℕ) (r : Run A) → RunIn (length (dr
 behind e s r h = subst (λ (n : ℕ). RunIn n r) (length-drop e s) h
 
 -- A reader of pieces whose pieces and refusals lie in the text.
-module _ (headAt : List ℕ → HeadRead) (blockAt : List ℕ → BlockRead) (head-in : (s : List ℕ) → HeadIn (length s) (headAt s)) (block-in : (s : List ℕ) → BlockIn (length s) (blockAt s)) where
+module _ (headAt : List ℕ → HeadRead) (blockAt : ℕ → List ℕ → BlockRead) (head-in : (s : List ℕ) → HeadIn (length s) (headAt s)) (block-in : (c : ℕ) (s : List ℕ) → BlockIn c (length s) (blockAt c s)) where
   -- The full reading.
-  blocks-in : (n : ℕ) (s : List ℕ) → RunIn (length s) (blocksIn headAt blockAt n s)
+  blocks-in : (n c : ℕ) (s : List ℕ) → RunIn (length s) (blocksIn headAt blockAt n c s)
   unfolding blocksIn
-  blocks-in zero s = tt
-  blocks-in (suc n) s = go (blockAt s) (block-in s) (λ e. blocks-in n (drop e s))
+  blocks-in zero c s = tt
+  blocks-in (suc n) c s = go (blockAt c s) (block-in c s) (λ e d. blocks-in n d (drop e s))
     where
-      go : (b : BlockRead) → BlockIn (length s) b → ((e : ℕ) → RunIn (length (drop e s)) (blocksIn headAt blockAt n (drop e s)))
-          → RunIn {A = List ℕ} (length s) (elim b [ block e ws ↦ item e ws (blocksIn headAt blockAt n (drop e s)) | tail e ↦ item e [] done | badBlock q p ↦ stop q p ])
-      go (block e ws) h ih = (h, behind e s (blocksIn headAt blockAt n (drop e s)) (ih e))
+      go : (b : BlockRead) → BlockIn c (length s) b → ((e d : ℕ) → RunIn (length (drop e s)) (blocksIn headAt blockAt n d (drop e s)))
+          → RunIn {A = List ℕ} (length s) (elim b [ block e d ws ↦ item e c ws (blocksIn headAt blockAt n d (drop e s)) | tail e ↦ item e c [] done | badBlock q p ↦ stop q p ])
+      go (block e d ws) h ih = (h .0, behind e s (blocksIn headAt blockAt n d (drop e s)) (ih e d))
       go (tail e) h ih = (h, tt)
       go (badBlock q p) h ih = h
 
@@ -222,8 +226,8 @@ module _ (headAt : List ℕ → HeadRead) (blockAt : List ℕ → BlockRead) (he
   unfolding reading blocks
   reading-in s = go (headAt s) (head-in s)
     where
-      go : (b : HeadRead) → HeadIn (length s) b → RunIn {A = List ℕ} (length s) (elim b [ head e ws ↦ item e ws (blocks headAt blockAt (drop e s)) | badHead q p ↦ stop q p ])
-      go (head e ws) h = (h, behind e s (blocks headAt blockAt (drop e s)) (blocks-in (suc (length (drop e s))) (drop e s)))
+      go : (b : HeadRead) → HeadIn (length s) b → RunIn {A = List ℕ} (length s) (elim b [ head e d ws ↦ item e 0 ws (blocks headAt blockAt d (drop e s)) | badHead q p ↦ stop q p ])
+      go (head e d ws) h = (h .0, behind e s (blocks headAt blockAt d (drop e s)) (blocks-in (suc (length (drop e s))) d (drop e s)))
       go (badHead q p) h = h
 
   pub full-in : (words dir : ℕ) (text : List ℕ) → LeftIn (length text) (full headAt blockAt words dir text)
@@ -235,17 +239,17 @@ module _ (headAt : List ℕ → HeadRead) (blockAt : List ℕ → BlockRead) (he
 
   -- Re-reading.
   module _ (c olen : ℕ) (os : List Old) (shared : c ≤ olen) (fill : oldSizes os ≤ olen) where
-    again-in : (n : ℕ) (s : List ℕ) → RunIn (length s) (againIn headAt blockAt c olen os n s)
+    again-in : (n d : ℕ) (s : List ℕ) → RunIn (length s) (againIn headAt blockAt c olen os n d s)
     unfolding againIn
-    again-in zero s = tt
-    again-in (suc n) s = go (blockAt s) (block-in s) (λ e. joined-in c olen os (drop e s) _ shared fill (again-in n (drop e s)))
+    again-in zero d s = tt
+    again-in (suc n) d s = go (blockAt d s) (block-in d s) (λ e d2. joined-in c olen os d2 (drop e s) _ shared fill (again-in n d2 (drop e s)))
       where
-        more : ℕ → Run Source
-        more e = joined c olen os (drop e s) (againIn headAt blockAt c olen os n (drop e s))
+        more : (e d2 : ℕ) → Run Source
+        more e d2 = joined c olen os d2 (drop e s) (againIn headAt blockAt c olen os n d2 (drop e s))
 
-        go : (b : BlockRead) → BlockIn (length s) b → ((e : ℕ) → RunIn (length (drop e s)) (more e))
-            → RunIn {A = Source} (length s) (elim b [ block e ws ↦ item e (fresh ws) (more e) | tail e ↦ item e (fresh []) done | badBlock q p ↦ stop q p ])
-        go (block e ws) h ih = (h, behind e s (more e) (ih e))
+        go : (b : BlockRead) → BlockIn d (length s) b → ((e d2 : ℕ) → RunIn (length (drop e s)) (more e d2))
+            → RunIn {A = Source} (length s) (elim b [ block e d2 ws ↦ item e d (fresh ws) (more e d2) | tail e ↦ item e d (fresh []) done | badBlock q p ↦ stop q p ])
+        go (block e d2 ws) h ih = (h .0, behind e s (more e d2) (ih e d2))
         go (tail e) h ih = (h, tt)
         go (badBlock q p) h ih = h
 
@@ -253,25 +257,28 @@ module _ (headAt : List ℕ → HeadRead) (blockAt : List ℕ → BlockRead) (he
     unfolding behindFront again oldSizes
     behind-front-in zero newer = let z : length newer - 0 ≡ length newer = omega arith in rw z (go (headAt newer) (head-in newer))
       where
-        more : ℕ → Run Source
-        more e = joined c olen os (drop e newer) (again headAt blockAt c olen os (drop e newer))
+        more : (e d : ℕ) → Run Source
+        more e d = joined c olen os d (drop e newer) (again headAt blockAt c olen os d (drop e newer))
 
-        more-in : (e : ℕ) → RunIn (length (drop e newer)) (more e)
-        more-in e = joined-in c olen os (drop e newer) _ shared fill (again-in (suc (length (drop e newer))) (drop e newer))
+        more-in : (e d : ℕ) → RunIn (length (drop e newer)) (more e d)
+        more-in e d = joined-in c olen os d (drop e newer) _ shared fill (again-in (suc (length (drop e newer))) d (drop e newer))
 
-        go : (b : HeadRead) → HeadIn (length newer) b → RunIn {A = Source} (length newer) (elim b [ head e ws ↦ item e (fresh ws) (more e) | badHead q p ↦ stop q p ])
-        go (head e ws) h = (h, behind e newer (more e) (more-in e))
+        go : (b : HeadRead) → HeadIn (length newer) b → RunIn {A = Source} (length newer) (elim b [ head e d ws ↦ item e 0 (fresh ws) (more e d) | badHead q p ↦ stop q p ])
+        go (head e d ws) h = (h .0, behind e newer (more e d) (more-in e d))
         go (badHead q p) h = h
     behind-front-in (suc k) newer = go (ltb (suc k) (length os))
       where
         front : ℕ
         front = oldSizes (take (suc k) os)
 
+        d : ℕ
+        d = firstCounter (drop (suc k) os)
+
         s : List ℕ
         s = drop front newer
 
-        go : (b : Bool) → RunIn {A = Source} (length newer - front) (elim b [ true ↦ again headAt blockAt c olen os s | false ↦ done ])
-        go true = behind front newer (again headAt blockAt c olen os s) (again-in (suc (length s)) s)
+        go : (b : Bool) → RunIn {A = Source} (length newer - front) (elim b [ true ↦ again headAt blockAt c olen os d s | false ↦ done ])
+        go true = behind front newer (again headAt blockAt c olen os d s) (again-in (suc (length s)) d s)
         go false = tt
 
   judge-again-in : (words dir : ℕ) (older newer : List ℕ) (os : List Old) → oldSizes os ≤ length older → VerdictIn (length newer) (judgeAgain headAt blockAt words dir older newer os)
@@ -286,7 +293,7 @@ module _ (headAt : List ℕ → HeadRead) (blockAt : List ℕ → BlockRead) (he
   reread-of-in : (words dir older newer : List ℕ) (o : Option (List Old)) → ((os : List Old) → o ≡ some os → oldSizes os ≤ length older) → LeftIn (length newer) (leftOf (rereadOf headAt blockAt words dir older newer o))
   unfolding rereadOf
   reread-of-in words dir older newer none h =
-      leave-again-in words dir (length newer) _ 0 done done (and-in (length newer) (textAsked newer) (refused qOlder 0) (text-in newer) ((omega arith, omega arith), omega arith))
+      leave-again-in words dir (length newer) _ 0 done done (and-in (length newer) (textAsked newer) (refused qOlder 0) (text-in newer) (question 22 tt, omega arith))
   reread-of-in words dir older newer (some os) h =
       leave-again-in words dir (length newer) _ _ _ _
       (and-in (length newer) (textAsked newer) _ (text-in newer) (judge-again-in (length words) (length dir) older newer os (h os refl)))

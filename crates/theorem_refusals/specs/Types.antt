@@ -27,9 +27,9 @@ pub in-whole : {n : ℕ} {f : Prog TypeOut} (q : ℕ) → T (asked q) → Inside
 unfolding whole
 in-whole q s h = then-with h (in-wholeOf q s)
 
-pub in-child : {A : Type 0} {n : ℕ} {p : Prog A} (k : ℕ) → Inside n Any p → Inside n Any (child k p)
+pub in-child : {A : Type 0} {P : A → Type 0} {n : ℕ} {p : Prog A} (k : ℕ) → Inside n P p → Inside n P (child k p)
 unfolding child room
-in-child k h = then h λ a. either (ltb k childLimit) done (in-refuse 19 tt)
+in-child k h = then-with h λ a x. either (ltb k childLimit) (gives x) (in-refuse 19 tt)
 
 pub asked-behind : (k q : ℕ) → T (asked q) → T (asked (behind k q))
 unfolding behind
@@ -43,7 +43,7 @@ pub in-typeChild : {n : ℕ} {f : Prog TypeOut} (k q : ℕ) → T (asked q) → 
 unfolding typeChild
 in-typeChild k q s h = in-child k (in-whole (behind k q) (asked-behind k q s) h)
 
-pub in-commaOr : {A : Type 0} {n : ℕ} {f g : Prog A} (end : ℕ) → Inside n Any f → Inside n Any g → Inside n Any (commaOr end f g)
+pub in-commaOr : {A : Type 0} {P : A → Type 0} {n : ℕ} {f g : Prog A} (end : ℕ) → Inside n P f → Inside n P g → Inside n P (commaOr end f g)
 unfolding commaOr
 in-commaOr end h k = in-tokenIf _ h (in-byteIf _ k (in-refuse 3 tt))
 

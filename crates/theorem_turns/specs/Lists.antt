@@ -17,7 +17,8 @@ use Rattle.grammar.specs.Lexer.{eatWs, refuse, tokenIf, expectToken, skipKeywor
 use Rattle.grammar.specs.Types.{TypeOut, room, child, whole, behind, typeChild, commaOr, commaList, dotsList, typeItem, parseType}
 use Rattle.grammar.specs.Values.{pairChild, gepIndices}
 use Rattle.grammar.specs.Instructions.{value, labelNode, argItem, phiItems, caseInt, target, switchCases}
-use Rattle.grammar.specs.Body.{parseParam}
+use Rattle.grammar.specs.Counter.{counterOf, itemOf}
+use Rattle.grammar.specs.Body.{parseParam, parseParams}
 use Rattle.theorem_turns.specs.Same.{Same, same, alike, then, by-byte, by-byte-at}
 
 -- It ends with no value.
@@ -99,9 +100,6 @@ pub asks-argItem : Asks argItem
 unfolding argItem
 asks-argItem n h = silent-first _ _ (silent-typeChild n 6 (parseType depthLimit) h)
 
-pub asks-param : Asks (λ n. child n (parseParam (behind n qToken)))
-asks-param n h = silent-child n (parseParam (behind n qToken)) h
-
 pub same-commaList : {m : ℕ} (u v k end n : ℕ) (elem : ℕ → Prog (List ℕ)) (acc : List ℕ) → Asks elem → 1 ≤ k → Enough n u → Enough n v → Same m (commaList u k end elem n acc) (commaList v k end elem n acc)
 unfolding commaList commaOr tokenIf
 same-commaList zero v k end n elem acc asks one a b = absurd (omega (arith, a .1))
@@ -128,6 +126,22 @@ same-dotsList {m} (suc u) (suc v) k dots bad n elem acc asks one a b = go (leb c
         let l : n < childLimit = leb-false childLimit n t in
         then eatWs λ _. by-byte-at _ alike
         (then (elem n) λ x. then eatWs λ _. by-byte _ (again x (omega (arith, a .0, one), omega (arith, a .0, l)) (omega (arith, b .0, one), omega (arith, b .0, l))) alike)
+
+-- parameters, each with the counter behind those before it
+pub same-parseParams : {m : ℕ} (u v c n : ℕ) (acc : List ℕ) → Enough n u → Enough n v → Same m (parseParams u c n acc) (parseParams v c n acc)
+unfolding parseParams dotsIf commaOr tokenIf
+same-parseParams zero v c n acc a b = absurd (omega (arith, a .1))
+same-parseParams (suc u) zero c n acc a b = absurd (omega (arith, b .1))
+same-parseParams {m} (suc u) (suc v) c n acc a b = go (leb childLimit n) refl λ d x e f. same-parseParams u v d (n + 1) (acc ++ x) e f
+  where
+    go : (t : Bool) → leb childLimit n ≡ t → ((d : ℕ) (x : List ℕ) → Enough (n + 1) u → Enough (n + 1) v → Same m (parseParams u d (n + 1) (acc ++ x)) (parseParams v d (n + 1) (acc ++ x)))
+        → Same m (parseParams (suc u) c n acc) (parseParams (suc v) c n acc)
+    go true t again = then eatWs λ _. by-byte-at _ alike (never (child n (parseParam (behind n qToken) c)) _ _ (silent-child n (parseParam (behind n qToken) c) (leb-true childLimit n t)))
+    go false t again =
+        let l : n < childLimit = leb-false childLimit n t in
+        then eatWs λ _. by-byte-at _ alike
+        (then (child n (parseParam (behind n qToken) c)) λ x. then eatWs λ _.
+        by-byte _ (again (counterOf x) (itemOf x) (omega (arith, a .0), omega (arith, a .0, l)) (omega (arith, b .0), omega (arith, b .0, l))) alike)
 
 pub same-gepIndices : {m : ℕ} (u v : ℕ) (type : Prog TypeOut) (value : Prog (List ℕ)) (n : ℕ) (acc : List ℕ) → Enough n u → Enough n v → Same m (gepIndices u type value n acc) (gepIndices v type value n acc)
 unfolding gepIndices commaOr tokenIf

@@ -12,7 +12,7 @@ use Rattle.grammar.specs.Attributes.{flagAttrs, parenAttrs, arithFlags, fastMat
 use Rattle.grammar.specs.Types.{TypeOut, ptrWords, optAddrspace, parseTypeList, suffixes}
 use Rattle.grammar.specs.Values.{pairChild, parseGepFlags}
 use Rattle.grammar.specs.Instructions.{clausesIn, gepInstIndices}
-use Rattle.grammar.specs.Body.{Statement, label, instruction, terminator, parseStatement, finishBlock, overAt, parseBody}
+use Rattle.grammar.specs.Body.{Statement, label, instruction, terminator, inBlock, parseStatement, finishBlock, overAt, parseBody}
 use Rattle.theorem_turns.specs.Same.{Same, Full, alike, no-text, scans, ends, then, then-moved, by-byte, by-byte-at, by-word, byte-taken, token-taken, word-taken, rank-taken}
 use Rattle.theorem_edits.specs.Again.{statement-moves}
 
@@ -112,26 +112,28 @@ same-suffixes (suc n) (suc u) (suc v) bad elem t a b =
     byte-taken _ (then (parseTypeList bad elem) λ l. then eatWs λ _. by-byte _ again alike)
     (then optAddrspace λ _. byte-taken _ again alike)
 
-pub same-parseBody : (n u v l k over : ℕ) (acc : List ℕ) → n ≤ u → n ≤ v → Same n (parseBody u l k over acc) (parseBody v l k over acc)
+pub same-parseBody : (n u v c l k over : ℕ) (acc : List ℕ) → n ≤ u → n ≤ v → Same n (parseBody u c l k over acc) (parseBody v c l k over acc)
 unfolding parseBody
-same-parseBody zero u v l k over acc a b = no-text
-same-parseBody (suc n) zero v l k over acc a b = absurd (omega arith)
-same-parseBody (suc n) (suc u) zero l k over acc a b = absurd (omega arith)
-same-parseBody (suc n) (suc u) (suc v) l k over acc a b =
-    then eatWs λ _. ends (then-moved parseStatement statement-moves λ s. then place λ j. behind s j λ l k over acc. same-parseBody n u v l k over acc (omega arith) (omega arith))
+same-parseBody zero u v c l k over acc a b = no-text
+same-parseBody (suc n) zero v c l k over acc a b = absurd (omega arith)
+same-parseBody (suc n) (suc u) zero c l k over acc a b = absurd (omega arith)
+same-parseBody (suc n) (suc u) (suc v) c l k over acc a b =
+    then eatWs λ _.
+    ends (then-moved (parseStatement (inBlock c l k)) (statement-moves (inBlock c l k)) λ s. then place λ j.
+    behind s j λ c l k over acc. same-parseBody n u v c l k over acc (omega arith) (omega arith))
   where
-    behind : (s : Statement) (j : ℕ) → ((l k over : ℕ) (acc : List ℕ) → Same n (parseBody u l k over acc) (parseBody v l k over acc))
+    behind : (s : Statement) (j : ℕ) → ((c l k over : ℕ) (acc : List ℕ) → Same n (parseBody u c l k over acc) (parseBody v c l k over acc))
         → Same {A = List ℕ} n
         (elim s [
-          | label m ↦ parseBody u m k over acc
-          | instruction ws ↦ parseBody u l (k + 1) (overAt k over j) (acc ++ ws)
-          | terminator ws ↦ finishBlock l k over acc ws
+          | label d m ↦ parseBody u d m k over acc
+          | instruction d ws ↦ parseBody u d l (k + 1) (overAt k over j) (acc ++ ws)
+          | terminator d ws ↦ finishBlock d l k over acc ws
         ])
         (elim s [
-          | label m ↦ parseBody v m k over acc
-          | instruction ws ↦ parseBody v l (k + 1) (overAt k over j) (acc ++ ws)
-          | terminator ws ↦ finishBlock l k over acc ws
+          | label d m ↦ parseBody v d m k over acc
+          | instruction d ws ↦ parseBody v d l (k + 1) (overAt k over j) (acc ++ ws)
+          | terminator d ws ↦ finishBlock d l k over acc ws
         ])
-    behind (label m) j again = again m k over acc
-    behind (instruction ws) j again = again l (k + 1) (overAt k over j) (acc ++ ws)
-    behind (terminator ws) j again = alike
+    behind (label d m) j again = again d m k over acc
+    behind (instruction d ws) j again = again d l (k + 1) (overAt k over j) (acc ++ ws)
+    behind (terminator d ws) j again = alike

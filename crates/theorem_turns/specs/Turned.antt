@@ -9,9 +9,10 @@ use Rattle.grammar.specs.Attributes.{skipAttrsIn}
 use Rattle.grammar.specs.Types.{TypeOut, Listed, commaList, dotsList, suffixes}
 use Rattle.grammar.specs.Values.{parseGepFlags, gepIndices}
 use Rattle.grammar.specs.Instructions.{Clauses, clausesIn, gepInstIndices, phiItems, Cases, switchCases}
-use Rattle.grammar.specs.Body.{parseBody}
+use Rattle.grammar.specs.Counter.{Counted}
+use Rattle.grammar.specs.Body.{parseBody, parseParams}
 use Rattle.theorem_turns.specs.Same as Same
-use Rattle.theorem_turns.specs.Lists.{Asks, Enough, same-commaList, same-dotsList, same-gepIndices, same-phiItems, same-switchCases}
+use Rattle.theorem_turns.specs.Lists.{Asks, Enough, same-commaList, same-dotsList, same-parseParams, same-gepIndices, same-phiItems, same-switchCases}
 use Rattle.theorem_turns.specs.Loops.{same-skipAll, same-skipAttrsIn, same-suffixes, same-parseGepFlags, same-clausesIn, same-gepInstIndices, same-parseBody}
 
 -- g is f but for numbers of turns, none of which is less than n, or for a list less than it has children.
@@ -31,9 +32,10 @@ pub data Turned (n : ℕ) : (A : Type 0) (f g : Prog A) → Type 1 where
   at-parseGepFlags : (u v inbounds : ℕ) → n ≤ u → n ≤ v → Turned n ℕ (parseGepFlags u inbounds) (parseGepFlags v inbounds)
   at-clausesIn : (u v : ℕ) (more : Prog (List ℕ)) (count : Option (List ℕ)) (align : List ℕ) → n ≤ u → n ≤ v → Turned n Clauses (clausesIn u more count align) (clausesIn v more count align)
   at-gepInstIndices : (u v k : ℕ) (acc : List ℕ) → n ≤ u → n ≤ v → Turned n Listed (gepInstIndices u k acc) (gepInstIndices v k acc)
-  at-parseBody : (u v l k over : ℕ) (acc : List ℕ) → n ≤ u → n ≤ v → Turned n (List ℕ) (parseBody u l k over acc) (parseBody v l k over acc)
+  at-parseBody : (u v c l k over : ℕ) (acc : List ℕ) → n ≤ u → n ≤ v → Turned n (List ℕ) (parseBody u c l k over acc) (parseBody v c l k over acc)
   at-commaList : (u v k end m : ℕ) (elem : ℕ → Prog (List ℕ)) (acc : List ℕ) → Asks elem → 1 ≤ k → Enough m u → Enough m v → Turned n Listed (commaList u k end elem m acc) (commaList v k end elem m acc)
   at-dotsList : (u v k dots bad m : ℕ) (elem : ℕ → Prog (List ℕ)) (acc : List ℕ) → Asks elem → 1 ≤ k → Enough m u → Enough m v → Turned n Listed (dotsList u k dots bad elem m acc) (dotsList v k dots bad elem m acc)
+  at-parseParams : (u v c m : ℕ) (acc : List ℕ) → Enough m u → Enough m v → Turned n (Counted Listed) (parseParams u c m acc) (parseParams v c m acc)
   at-gepIndices : (u v : ℕ) (type : Prog TypeOut) (value : Prog (List ℕ)) (m : ℕ) (acc : List ℕ) → Enough m u → Enough m v → Turned n Listed (gepIndices u type value m acc) (gepIndices v type value m acc)
   at-phiItems : (u v m : ℕ) (acc : List ℕ) → Enough m u → Enough m v → Turned n Listed (phiItems u m acc) (phiItems v m acc)
   at-switchCases : (u v m : ℕ) (ints labels : List ℕ) → Enough m u → Enough m v → Turned n Cases (switchCases u m ints labels) (switchCases v m ints labels)
@@ -54,9 +56,10 @@ turned-same {n = n} (at-suffixes u v bad elem t a b) = same-suffixes n u v bad e
 turned-same {n = n} (at-parseGepFlags u v inbounds a b) = same-parseGepFlags n u v inbounds a b
 turned-same {n = n} (at-clausesIn u v more count align a b) = same-clausesIn n u v more count align a b
 turned-same {n = n} (at-gepInstIndices u v k acc a b) = same-gepInstIndices n u v k acc a b
-turned-same {n = n} (at-parseBody u v l k over acc a b) = same-parseBody n u v l k over acc a b
+turned-same {n = n} (at-parseBody u v c l k over acc a b) = same-parseBody n u v c l k over acc a b
 turned-same (at-commaList u v k end m elem acc h one a b) = same-commaList u v k end m elem acc h one a b
 turned-same (at-dotsList u v k dots bad m elem acc h one a b) = same-dotsList u v k dots bad m elem acc h one a b
+turned-same (at-parseParams u v c m acc a b) = same-parseParams u v c m acc a b
 turned-same (at-gepIndices u v type value m acc a b) = same-gepIndices u v type value m acc a b
 turned-same (at-phiItems u v m acc a b) = same-phiItems u v m acc a b
 turned-same (at-switchCases u v m ints labels a b) = same-switchCases u v m ints labels a b

@@ -30,7 +30,7 @@ pub record Alike (u v i : ℕ) (s : List ℕ) : Type 0 where
   pub at-parseGepFlags : (inbounds : ℕ) → run (parseGepFlags u inbounds) i s ≡ run (parseGepFlags v inbounds) i s
   pub at-clausesIn : (more : Prog (List ℕ)) (count : Option (List ℕ)) (align : List ℕ) → run (clausesIn u more count align) i s ≡ run (clausesIn v more count align) i s
   pub at-gepInstIndices : (k : ℕ) (acc : List ℕ) → run (gepInstIndices u k acc) i s ≡ run (gepInstIndices v k acc) i s
-  pub at-parseBody : (l k over : ℕ) (acc : List ℕ) → run (parseBody u l k over acc) i s ≡ run (parseBody v l k over acc) i s
+  pub at-parseBody : (c l k over : ℕ) (acc : List ℕ) → run (parseBody u c l k over acc) i s ≡ run (parseBody v c l k over acc) i s
 
 on-all : {A : Type 0} {f g : Prog A} (i : ℕ) (s : List ℕ) → Same (suc (length s)) f g → run f i s ≡ run g i s
 on-all i s h = runs h i s (omega arith)
@@ -48,16 +48,16 @@ more-turns u v i s a b =
       at-parseGepFlags = λ inbounds. on-all i s (same-parseGepFlags _ u v inbounds a b);
       at-clausesIn = λ more count align. on-all i s (same-clausesIn _ u v more count align a b);
       at-gepInstIndices = λ k acc. on-all i s (same-gepInstIndices _ u v k acc a b);
-      at-parseBody = λ l k over acc. on-all i s (same-parseBody _ u v l k over acc a b);
+      at-parseBody = λ c l k over acc. on-all i s (same-parseBody _ u v c l k over acc a b);
     }
 
 -- "1. At most 16,777,216 bytes?"
 pub enough-turns : (more i : ℕ) (s : List ℕ) → length s ≤ 16777216 → Alike (turns + more) turns i s
 enough-turns more i s h = more-turns (turns + more) turns i s (omega arith) (omega arith)
 
--- A head or a block reads the same, however many more turns its loops are given.
+-- A head or a block, whatever the counter at its start, reads the same, however many more turns its loops are given.
 pub enough-head : (g : Prog (List ℕ)) → Turned turns (List ℕ) parseHead g → (i : ℕ) (s : List ℕ) → length s ≤ 16777216 → run g i s ≡ run parseHead i s
 enough-head g t i s h = sym (runs (turned-same t) i s (omega arith))
 
-pub enough-block : (g : Prog (List ℕ)) → Turned turns (List ℕ) parseBlock g → (i : ℕ) (s : List ℕ) → length s ≤ 16777216 → run g i s ≡ run parseBlock i s
-enough-block g t i s h = sym (runs (turned-same t) i s (omega arith))
+pub enough-block : (c : ℕ) (g : Prog (List ℕ)) → Turned turns (List ℕ) (parseBlock c) g → (i : ℕ) (s : List ℕ) → length s ≤ 16777216 → run g i s ≡ run (parseBlock c) i s
+enough-block c g t i s h = sym (runs (turned-same t) i s (omega arith))

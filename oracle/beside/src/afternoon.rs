@@ -5,6 +5,7 @@
 use crate::check::{parse, same_array};
 use crate::lent::Lent;
 use crate::port::{Model, Port, Reparsed};
+use judge::walk::entry;
 use model::full::records;
 use std::collections::BTreeMap;
 use texts::mutate;
@@ -18,7 +19,7 @@ const ASTRAY: usize = 4;
 
 /// Words and directory words beyond what the first text needs: some edits do not fit, most do.
 const SPARE_WORDS: &[usize] = &[0, 3, 20, 200, 200, 1000];
-const SPARE_DIRECTORY: &[usize] = &[0, 2, 6, 40, 40, 200];
+const SPARE_DIRECTORY: &[usize] = &[0, 3, 9, 60, 60, 300];
 
 /// What became of the calls.
 #[derive(Clone, Debug, Default, PartialEq, Eq)]
@@ -185,11 +186,28 @@ impl Replacement {
     }
 }
 
-/// What may come in the place of bytes of a block: spaces, comments, statements, a whole block, a digit.
+/// What may come in the place of bytes of a block: spaces, comments, statements, a whole block, a digit,
+/// what takes a number or catches up with it (M-106).
 const PUT_IN: &[&str] = &[
-    "", " ", "\n", " ; c\n", " fence seq_cst ", " %n = add i8 1, 2 ", " ret void ", " ret i8 7 x: ", "7",
-    "_", "%y", "a: ",
+    "", " ", "\n", "  ", " ; c\n", " fence seq_cst ", " %n = add i8 1, 2 ", " call void @g() ", " ret void ",
+    " ret i8 7 x: ", "7", "_", "%y", "a: ", " call i8 @g() ", " ret void 99: ",
 ];
+
+const SPACES: &[&str] = &["", " ", "\n", " ; c\n"];
+
+/// Where the name begins, sigil included, of whose digits one stands there.
+fn name_of_digits(text: &[u8], at: usize) -> Option<usize> {
+    let digits = |bytes: &[u8]| bytes.iter().take_while(|b| b.is_ascii_digit()).count();
+    let behind = at + digits(text.get(at..)?);
+    let before = text[..at].iter().rev().take_while(|b| b.is_ascii_digit()).count();
+    let first = at - before;
+    match (text[..first].last(), text.get(behind)) {
+        _ if behind == at => None,
+        (Some(b'%'), _) => Some(first - 1),
+        (_, Some(b':')) => Some(first),
+        _ => None,
+    }
+}
 
 /// An edit inside the piece that stands there: mostly at the border of a word, so that many are accepted.
 fn inside(rng: &mut Rng, text: &[u8], start: usize, length: usize) -> Replacement {
@@ -198,6 +216,12 @@ fn inside(rng: &mut Rng, text: &[u8], start: usize, length: usize) -> Replacemen
         1 => start + length,
         _ => start + rng.below(length + 1),
     };
+    if !rng.one_in(4) {
+        // A number as a name mostly stays what it is: something comes in front of it.
+        if let Some(at) = name_of_digits(text, at).filter(|&name| start <= name && at < start + length) {
+            return Replacement { at, many: 0, bytes: rng.pick(SPACES).as_bytes().to_vec() };
+        }
+    }
     let digit = at < start + length && text[at].is_ascii_digit();
     let many = if digit { 1 } else { rng.few(4).min(start + length - at) };
     let bytes = if digit { vec![rng.pick(b"123456789")] } else { rng.pick(PUT_IN).as_bytes().to_vec() };
@@ -216,8 +240,8 @@ pub fn either_order(port: &dyn Port, rng: &mut Rng, text: &[u8]) -> Option<Resul
     let i = 1 + rng.below(blocks - 1);
     let j = i + 1 + rng.below(blocks - i);
     let mut edit = |k: usize| {
-        let (start, length) = (r.directory[2 * k] >> 32, r.directory[2 * k] as u32);
-        inside(rng, text, start as usize, length as usize)
+        let piece = entry(&r.directory, k);
+        inside(rng, text, piece.start, piece.length)
     };
     let (a, b) = (edit(i), edit(j));
     let room = room(rng, text)?;

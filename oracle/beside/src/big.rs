@@ -1,5 +1,7 @@
 //! Long texts: question 19 in each kind of node, many parameters, many blocks, the longest text.
 
+use texts::numbers::{behind_all, moved, named};
+
 /// At the limit of children and one beyond, in each kind of node.
 pub fn children() -> Vec<Vec<u8>> {
     let list = |n: usize, item: &str| vec![item; n].join(",");
@@ -56,15 +58,30 @@ pub fn parameters(n: usize) -> Vec<u8> {
     format!(" i32 @f({}) {{\n  ret i32 %a0\n}}\n", list.join(", ")).into_bytes()
 }
 
-/// The blocks of real functions one after the other, about so many bytes.
+/// The blocks of real functions one after the other, about so many bytes; their numbers go on (M-106).
 pub fn blocks(functions: &[Vec<u8>], bytes: usize) -> Vec<u8> {
+    let mut next = 1;
+    joined(functions, bytes, |i, body| {
+        let own = moved(body, 0, next);
+        next += behind_all(body);
+        [format!("l{i}:\n").as_bytes(), &own].concat()
+    })
+}
+
+/// The same with names in place of the numbers; the first block of each has no label and takes a number
+/// by itself. So whoever takes one more in front moves the counter at every piece, and no text but that.
+pub fn unlabelled(functions: &[Vec<u8>], bytes: usize) -> Vec<u8> {
+    joined(functions, bytes, |_, body| named(body))
+}
+
+fn joined(functions: &[Vec<u8>], bytes: usize, mut written: impl FnMut(usize, &[u8]) -> Vec<u8>) -> Vec<u8> {
     let mut out = b" dso_local i32 @f(i32 noundef %0) #0 {\n".to_vec();
     let bodies: Vec<&[u8]> = functions.iter().filter_map(|f| body(f)).collect();
-    let mut i = 0;
-    while out.len() < bytes {
-        out.extend_from_slice(format!("l{i}:\n").as_bytes());
-        out.extend_from_slice(bodies[i % bodies.len()]);
-        i += 1;
+    for (i, body) in bodies.iter().cycle().enumerate() {
+        if out.len() >= bytes {
+            break;
+        }
+        out.extend_from_slice(&written(i, body));
     }
     out.extend_from_slice(b"}\n");
     out

@@ -2,6 +2,7 @@
 
 use crate::lent::Lent;
 use crate::port::{Model, Parsed, Port};
+use judge::walk::ENTRY_WORDS;
 use judge::{canonical_from_tree, canonical_from_words, judge, Answer};
 
 /// What a call did: its answer and both arrays.
@@ -20,7 +21,7 @@ pub fn parse(port: &dyn Port, text: &[u8], words: usize, directory: usize) -> Ou
 
 /// Room that every text of this length fits into: at most three words a byte, a piece a byte.
 pub fn ample(text: &[u8]) -> (usize, usize) {
-    (3 * text.len() + 8, 2 * text.len() + 8)
+    (3 * text.len() + 8, ENTRY_WORDS * text.len() + 8)
 }
 
 /// The first difference between a reader's outcome and the model's.

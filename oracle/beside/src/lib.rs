@@ -5,6 +5,7 @@ pub mod afternoon;
 pub mod big;
 pub mod check;
 pub mod lent;
+pub mod llvm;
 pub mod long;
 pub mod port;
 pub mod reread;

@@ -20,7 +20,7 @@ pub fn longest() -> Vec<Call> {
     let older = b"void @f(){ret void}";
     let padded = |length: usize| [&older[..], &vec![b' '; length - older.len()]].concat();
     [LENGTH, LENGTH + 1]
-        .map(|length| call(older, padded(length), (9, 4)).expect("a text that is read"))
+        .map(|length| call(older, padded(length), (9, 6)).expect("a text that is read"))
         .to_vec()
 }
 

@@ -2,7 +2,7 @@
 
 use crate::check::{parse, same};
 use crate::port::{Model, Parsed, Port};
-use judge::walk::entry;
+use judge::walk::{entry, ENTRY_WORDS};
 
 /// Records of at most so many words are tried in every size from 0 up.
 const FEW: usize = 48;
@@ -19,7 +19,7 @@ pub fn check(port: &dyn Port, text: &[u8]) -> Result<u64, String> {
     let last = entry(whole.directory.words(), entries - 1);
     let every = 0..=last.first.min(FEW);
     let word_sizes = around((0..entries).map(|i| entry(whole.directory.words(), i).first).chain(every));
-    let entry_sizes = around((0..=entries).map(|i| 2 * i));
+    let entry_sizes = around((0..=entries).map(|i| ENTRY_WORDS * i));
     let mut tried = 0;
     // Each list with the other array ample, then both around the exact fit.
     for &w in &word_sizes {
@@ -29,7 +29,7 @@ pub fn check(port: &dyn Port, text: &[u8]) -> Result<u64, String> {
         tried += one(port, text, words, d)?;
     }
     for w in around([last.first]) {
-        for d in around([2 * entries]) {
+        for d in around([ENTRY_WORDS * entries]) {
             tried += one(port, text, w, d)?;
         }
     }
@@ -40,7 +40,7 @@ pub fn check(port: &dyn Port, text: &[u8]) -> Result<u64, String> {
 fn small(port: &dyn Port, text: &[u8]) -> Result<u64, String> {
     let mut tried = 0;
     for words in [0, 1, 2, 3, 4, 5, 6, 8, 9, 10, 12, 16, 20] {
-        for directory in [0, 1, 2, 3, 4, 6, 64] {
+        for directory in [0, 2, 3, 4, 5, 6, 64] {
             tried += one(port, text, words, directory)?;
         }
     }

@@ -3,7 +3,9 @@
 use beside::port::{Model, Parsed, Port, Reparsed};
 use beside::{afternoon, check, reread, rooms};
 use judge::answer::on_big_stack;
-use judge::left_out;
+use judge::walk::{entry, ENTRY_WORDS};
+use judge::{left_out, misnumbered};
+use model::full::records;
 use texts::rng::Rng;
 use texts::Texts;
 
@@ -27,6 +29,10 @@ enum Wrong {
     KeepsEqualEnd,
     ZerosOnRefusedEdit,
     WordChangedOnRefusedEdit,
+    NoThirdWords,
+    BeginsWithZero,
+    JoinsAnyCounter,
+    TakesOtherThirdWords,
 }
 
 use Wrong::*;
@@ -57,8 +63,8 @@ impl Port for Wrong {
         let mut parsed = Model.parse_define(text, words, directory);
         match self {
             LaterBlank if parsed.number == 0 => {
-                let first = directory[3] >> 32;
-                words[first as usize..].fill(0);
+                let first = entry(directory, 1).first;
+                words[first..].fill(0);
             }
             NoZerosBehind if parsed.number == 0 => {
                 if let Some(last) = words.last_mut() {
@@ -66,6 +72,9 @@ impl Port for Wrong {
                 }
             }
             NoZerosOnRefusal if parsed.number != 0 => directory.fill(1),
+            NoThirdWords if parsed.number == 0 => {
+                directory.chunks_exact_mut(ENTRY_WORDS).for_each(|entry| entry[2] = 0);
+            }
             PlaceOff if parsed.number == 3 => parsed.place += 1,
             EntriesOnRefusal if parsed.number != 0 => parsed.entries = 1,
             WritesOutside => unsafe { *words.as_mut_ptr().add(words.len()) = 0 },
@@ -103,6 +112,9 @@ impl Port for Wrong {
                     read: parsed.entries,
                 };
             }
+            BeginsWithZero | JoinsAnyCounter => {
+                return self.other_counters(older, newer, words, directory, entries);
+            }
             _ => {}
         }
         let mut answer = Model.reparse_define(older, newer, words, directory, entries);
@@ -111,6 +123,11 @@ impl Port for Wrong {
             KeepsEqualEnd if older == newer && answer.read == 1 => {
                 answer.first += 1;
                 answer.read = 0;
+            }
+            // 22 does not ask for them.
+            TakesOtherThirdWords if answer.number == 22 => {
+                directory.chunks_exact_mut(ENTRY_WORDS).for_each(|entry| entry[2] = entry[2].min(1 << 32));
+                return Model.reparse_define(older, newer, words, directory, entries);
             }
             ZerosOnRefusedEdit if answer.number != 0 => {
                 words.fill(0);
@@ -125,6 +142,50 @@ impl Port for Wrong {
             _ => {}
         }
         answer
+    }
+}
+
+impl Wrong {
+    /// The model's answer to a call whose third words were altered to what the wrong reader takes them for,
+    /// and put back in the pieces that are kept.
+    fn other_counters(
+        &self,
+        older: &[u8],
+        newer: &[u8],
+        words: &mut [u64],
+        directory: &mut [u64],
+        entries: u64,
+    ) -> Reparsed {
+        let (w, d) = (words.to_vec(), directory.to_vec());
+        let right = Model.reparse_define(older, newer, words, directory, entries);
+        if right.number != 0 || right.read == 0 {
+            return right;
+        }
+        words.copy_from_slice(&w);
+        directory.copy_from_slice(&d);
+        match self {
+            BeginsWithZero => directory[ENTRY_WORDS * right.first as usize + 2] = 0,
+            _ => agreeing(older, newer, directory, entries as usize),
+        }
+        let wrong = Model.reparse_define(older, newer, words, directory, entries);
+        let behind = wrong.entries.saturating_sub(wrong.first + wrong.read) as usize;
+        for k in 1..=behind {
+            let (new, old) = (wrong.entries as usize - k, entries as usize - k);
+            directory[ENTRY_WORDS * new + 2] = d[ENTRY_WORDS * old + 2];
+        }
+        wrong
+    }
+}
+
+/// Every old piece gets the counter of the new one that stands as far from the end.
+fn agreeing(older: &[u8], newer: &[u8], directory: &mut [u64], entries: usize) {
+    let Ok(r) = records(newer) else { return };
+    for i in 1..entries {
+        let start = (entry(directory, i).start + newer.len()).checked_sub(older.len());
+        let new = (1..r.entries()).map(|k| entry(&r.directory, k)).find(|e| Some(e.start) == start);
+        if let Some(new) = new {
+            directory[ENTRY_WORDS * i + 2] = new.counter;
+        }
     }
 }
 
@@ -145,7 +206,8 @@ fn wrong_readers_are_caught() {
         let all = [
             LaterBlank, EarlyTwenty, SingleTree, RefusesAll, Untouched, NoZerosBehind, NoZerosOnRefusal,
             PlaceOff, EntriesOnRefusal, WritesOutside, Column, HandsBack, RereadsAll, MadeUpRun,
-            KeepsEqualEnd, ZerosOnRefusedEdit, WordChangedOnRefusedEdit,
+            KeepsEqualEnd, ZerosOnRefusedEdit, WordChangedOnRefusedEdit, NoThirdWords, BeginsWithZero,
+            JoinsAnyCounter,
         ];
         for wrong in all {
             assert!(caught(wrong), "{wrong:?}");
@@ -162,6 +224,35 @@ fn left_out_texts_are_judged() {
     assert!(check::full(&RefusesAll, text).is_err());
     let call = reread::call(text, newer.to_vec(), (0, 0)).expect("a text that is read");
     assert!(reread::check(&HandsBack, &call).is_err());
+}
+
+/// Where the Rust is not asked for 26 (M-106) the model judges, and the Rust with 26 put in.
+#[test]
+fn misnumbered_texts_are_judged() {
+    let text = b"void @f(){%0 = add i8 1, 2 ret void}";
+    assert!(misnumbered(text));
+    assert!(check::full(&RefusesAll, text).is_err());
+    assert_eq!(
+        check::full(&Model, text).expect("right").answer,
+        Parsed { number: 26, place: 12, entries: 0 }
+    );
+}
+
+/// Hostile third words are among the altered calls, refused with 22 and not.
+#[test]
+fn hostile_third_words() {
+    on_big_stack(|| {
+        let mut texts = Texts::new(17);
+        let mut rng = Rng::new(18);
+        let caught = (0..3000).any(|_| {
+            let (_, text) = texts.draw();
+            reread::edit(&mut rng, &text).is_some_and(|mut call| {
+                reread::alter(&mut rng, &mut call);
+                reread::check(&TakesOtherThirdWords, &call).is_err()
+            })
+        });
+        assert!(caught);
+    });
 }
 
 /// An afternoon alone shows what a refused edit must leave as it was.

@@ -17,7 +17,8 @@ pub enum Answer {
         number: u64,
         place: usize,
     },
-    /// Outside 01's domain, at this question and place: the Rust reads on, wraps or aborts.
+    /// Outside 01's domain, or out of M-106's sequence, at this question and place: the Rust reads on,
+    /// wraps or aborts.
     Outside {
         number: u64,
         place: usize,
@@ -81,6 +82,11 @@ pub fn left_out(text: &[u8]) -> bool {
     domain::may_be_left_out(text) && matches!(judge(text), Answer::LeftOut)
 }
 
+/// Whether the reader meets 26 (M-106), so that the Rust is not asked.
+pub fn misnumbered(text: &[u8]) -> bool {
+    matches!(judge(text), Answer::Outside { number: 26, .. })
+}
+
 /// The test copy's answer, whatever the text. Nested some 17,000 deep it aborts the process.
 pub fn rust(text: &str) -> Answer {
     survive(|| {
@@ -98,7 +104,7 @@ pub struct Asked {
     pub bare: Option<usize>,
 }
 
-/// The Rust's answer, but with questions 15 to 19, M-100 and M-101 put in.
+/// The Rust's answer, but with questions 15 to 19 and 26, M-100 and M-101 put in.
 pub fn asked(text: &str) -> Asked {
     let mut bare = None;
     let answer = survive(|| {

@@ -1,4 +1,4 @@
-//! Which texts need not be asked questions 1, 2 and 15 to 19, nor be mended or left out: a quick
+//! Which texts need not be asked questions 1, 2, 15 to 19 and 26, nor be mended or left out: a quick
 //! look that is sure of its yes.
 
 /// Question 16: the deepest level that is read.
@@ -21,11 +21,17 @@ pub fn whole_text(text: &[u8]) -> Option<(u64, usize)> {
     text.iter().position(|&b| b > 127).map(|place| (2, place))
 }
 
-/// True only if no reading of the text can meet 15 to 19, M-100's opcode or a bare attribute of
+/// True only if no reading of the text can meet 15 to 19 or 26, M-100's opcode or a bare attribute of
 /// M-101. False says nothing.
 pub fn surely_inside(text: &[u8]) -> bool {
     // 65,536 children take more bytes than this; so does a count of openers that stays small.
-    text.len() < 65_536 && few_openers(text) && no_forbidden(text) && small_numbers(text)
+    text.len() < 65_536 && few_openers(text) && no_forbidden(text) && small_numbers(text) && no_numbered(text)
+}
+
+/// M-106: no label, and no name that begins with a digit. Then the counter counts only what has no name,
+/// and that is less than the text is long.
+fn no_numbered(text: &[u8]) -> bool {
+    !text.contains(&b':') && !text.windows(2).any(|w| w[0] == b'%' && w[1].is_ascii_digit())
 }
 
 /// Each level below the first has an opening byte.
@@ -91,7 +97,7 @@ mod tests {
     #[test]
     fn sure_and_not() {
         assert!(surely_inside(b"void @f(){ret i32 7}"));
-        for bad in ["i0", "i8388609", "99999999", "1e23", "\"x\"", NOT_COMPARED, BOTH_WAYS] {
+        for bad in ["i0", "i8388609", "99999999", "1e23", "\"x\"", "a:", "%0", NOT_COMPARED, BOTH_WAYS] {
             assert!(!surely_inside(bad.as_bytes()));
         }
         assert_eq!(whole_text(b"a\x80"), Some((2, 1)));

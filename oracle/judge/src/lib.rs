@@ -13,7 +13,7 @@ pub mod tree;
 pub mod vector;
 pub mod walk;
 
-pub use answer::{judge, left_out, reads_on, Answer};
+pub use answer::{judge, left_out, misnumbered, reads_on, Answer};
 pub use form::{Form, Token};
 pub use tree::canonical_from_tree;
 pub use walk::canonical_from_words;

@@ -31,6 +31,7 @@ const NUMBERS: &[(&str, u64)] = &[
     ("question 17", 17),
     ("question 18", 18),
     ("question 19", 19),
+    ("question 26", 26),
 ];
 
 /// The number of a message of the function part; none for the messages that 18 and M-100 shut out.

@@ -124,6 +124,9 @@ fn alloca(detail: u64) -> Shape {
     plain(payload, first, 3)
 }
 
+/// A directory entry has three words since M-106.
+pub const ENTRY_WORDS: usize = 3;
+
 /// One directory entry.
 #[derive(Clone, Copy, Debug, PartialEq)]
 pub struct Entry {
@@ -131,13 +134,14 @@ pub struct Entry {
     pub length: usize,
     pub first: usize,
     pub count: usize,
+    pub counter: u64,
 }
 
 pub fn entry(directory: &[u64], i: usize) -> Entry {
     let half = |w: u64| ((w >> 32) as usize, w as u32 as usize);
-    let (start, length) = half(directory[2 * i]);
-    let (first, count) = half(directory[2 * i + 1]);
-    Entry { start, length, first, count }
+    let words = &directory[ENTRY_WORDS * i..];
+    let ((start, length), (first, count)) = (half(words[0]), half(words[1]));
+    Entry { start, length, first, count, counter: words[2] }
 }
 
 /// The form of an accepted reading, or what is wrong with its words or directory. Both arrays
@@ -148,22 +152,25 @@ pub fn canonical_from_words(
     directory: &[u64],
     entries: usize,
 ) -> Result<Form, String> {
-    if entries < 2 || entries > directory.len() / 2 {
+    if entries < 2 || entries > directory.len() / ENTRY_WORDS {
         return Err(format!("{entries} entries in {} directory words", directory.len()));
     }
     let mut form = Form::default();
     let (mut at, mut word) = (0, 0);
+    let mut numbers = Numbers::default();
     for i in 0..entries {
         let e = entry(directory, i);
         if (e.start, e.first) != (at, word) {
             return Err(format!("piece {i} does not begin where the last ended"));
         }
+        numbers.go_on(e.counter).map_err(|why| format!("piece {i}: {why}"))?;
         (at, word) = (e.start + e.length, e.first + e.count);
         if at > text.len() || word > words.len() {
             return Err(format!("piece {i} ends outside"));
         }
         let slot = if i == 0 { Head } else { Block };
-        let piece = Walk { text: &text[e.start..at], words: &words[e.first..word], at: 0, form: &mut form };
+        let (text, words) = (&text[e.start..at], &words[e.first..word]);
+        let piece = Walk { text, words, at: 0, form: &mut form, numbers: &mut numbers };
         if i + 1 < entries {
             piece.whole(slot).map_err(|why| format!("piece {i}: {why}"))?;
         } else if e.count != 0 {
@@ -174,7 +181,7 @@ pub fn canonical_from_words(
         return Err("the tail does not end in a brace".to_string());
     }
     zeros("words", words, word)?;
-    zeros("directory", directory, 2 * entries)?;
+    zeros("directory", directory, ENTRY_WORDS * entries)?;
     Ok(form)
 }
 
@@ -191,13 +198,14 @@ struct Walk<'a> {
     words: &'a [u64],
     at: usize,
     form: &'a mut Form,
+    numbers: &'a mut Numbers,
 }
 
 /// Above a type or value of the deepest level stand at most three nodes: block, call, function type. So wrong words cannot exhaust
 /// the stack.
 const DEPTH: usize = domain::DEPTH + 3;
 
-impl Walk<'_> {
+impl<'a> Walk<'a> {
     fn whole(mut self, slot: Slot) -> Result<(), String> {
         self.node(slot, 1)?;
         if self.at != self.words.len() {
@@ -234,6 +242,7 @@ impl Walk<'_> {
         for &part in shape.payload {
             self.part(part)?;
         }
+        self.number(kind, start)?;
         if kind == 54 {
             (0..2 * (children - 3)).try_for_each(|_| self.part(Number))?;
         }
@@ -255,6 +264,26 @@ impl Walk<'_> {
             return Err(wrong(&format!("{} words in the node", self.at - start), word));
         }
         Ok(())
+    }
+
+    /// M-106: what takes a number or has one as its name. The words have them in the text's order.
+    fn number(&mut self, kind: u64, start: usize) -> Result<(), String> {
+        let numbered = matches!(kind, 32..=51 | 61 | 62);
+        if !numbered {
+            return Ok(());
+        }
+        let name = self.words[start + 1];
+        let void = self.words.get(start + 2).is_some_and(|child| child >> 56 == 1);
+        match kind {
+            _ if name != 0 => {
+                let (at, raw) = self.raw(name)?;
+                let hidden = kind == 61 && self.text[..at].contains(&b':');
+                self.numbers.name(raw, hidden)
+            }
+            61 | 62 => self.numbers.take(),
+            44 if !void => self.numbers.take(),
+            _ => Ok(()),
+        }
     }
 
     /// A call's function type repeats its return type, word for word.
@@ -289,7 +318,7 @@ impl Walk<'_> {
     }
 
     /// The raw text of a name word, and where it starts.
-    fn raw(&self, word: u64) -> Result<(usize, &[u8]), String> {
+    fn raw(&self, word: u64) -> Result<(usize, &'a [u8]), String> {
         let (start, length) = ((word >> 32) as usize, word as u32 as usize);
         match self.text.get(start..start + length) {
             Some(raw) if length > 0 => Ok((start, raw)),
@@ -335,6 +364,50 @@ impl Walk<'_> {
         match decode_bytes(raw) {
             Some(bytes) => self.form.0.push(Token::Name(bytes)),
             None => return Err(format!("{word:x} is no byte string")),
+        }
+        Ok(())
+    }
+}
+
+/// The counter (M-106), counted again from names and nodes.
+#[derive(Default)]
+struct Numbers {
+    counter: u64,
+    /// A `:` stands before a block's label: perhaps of a label that the words do not have, so the counter
+    /// may be further on.
+    hidden: bool,
+}
+
+impl Numbers {
+    const LIMIT: u64 = 1 << 32;
+
+    /// The next piece begins with this counter.
+    fn go_on(&mut self, counter: u64) -> Result<(), String> {
+        let agrees = counter == self.counter || self.hidden && counter > self.counter;
+        if !agrees || counter > Self::LIMIT {
+            return Err(format!("begins with the counter {counter}, not {}", self.counter));
+        }
+        *self = Numbers { counter, hidden: false };
+        Ok(())
+    }
+
+    fn take(&mut self) -> Result<(), String> {
+        if self.counter >= Self::LIMIT {
+            return Err("no number is left".to_string());
+        }
+        self.counter += 1;
+        Ok(())
+    }
+
+    fn name(&mut self, raw: &[u8], hidden: bool) -> Result<(), String> {
+        self.hidden |= hidden;
+        if !raw.iter().all(u8::is_ascii_digit) {
+            return Ok(());
+        }
+        let number = std::str::from_utf8(raw).ok().and_then(|digits| digits.parse::<u64>().ok());
+        match number {
+            Some(n) if self.counter <= n && n < Self::LIMIT => self.counter = n + 1,
+            _ => return Err(format!("a number out of sequence behind {}", self.counter)),
         }
         Ok(())
     }

@@ -6,8 +6,8 @@ use crate::reread::{reparse_define, Reread};
 use judge::vector::{Expected, Vector};
 use judge::{canonical_from_tree, canonical_from_words, judge, Answer};
 
-/// How the two differ on a text, if they do. Outside the domain the asked copy answers; of a text that
-/// is left out (M-100) only the words' structure is looked at.
+/// How the two differ on a text, if they do. Outside the domain and at 26 the asked copy answers; of a
+/// text that is left out (M-100) only the words' structure is looked at.
 pub fn difference(text: &[u8]) -> Option<String> {
     let form = |r: &Records| canonical_from_words(text, &r.words, &r.directory, r.entries());
     match (records(text), judge(text)) {
@@ -25,6 +25,12 @@ pub fn difference(text: &[u8]) -> Option<String> {
         (Ok(_), answer) => Some(format!("model accepts\n   rust {answer}")),
         (Err(r), answer) => Some(format!("model R {} {}\n   rust {answer}", r.number, r.place)),
     }
+}
+
+/// Whether the model refuses the text with 26 (M-106): then the Rust with 26 put in is asked, not the
+/// Rust itself.
+pub fn misnumbered(text: &[u8]) -> bool {
+    matches!(records(text), Err(Refusal { number: 26, .. }))
 }
 
 /// A full reading in arrays of these lengths: entries or refusal, and both arrays.
@@ -61,9 +67,7 @@ pub fn edit(older: &[u8], newer: &[u8], spare: (usize, usize)) -> Result<Option<
 /// The model's answer as a line of a list.
 pub fn vector(text: &[u8]) -> Vector {
     let answer = match records(text) {
-        Ok(Records { words, directory, .. }) => {
-            Expected::Accepted { entries: directory.len() / 2, words, directory }
-        }
+        Ok(r) => Expected::Accepted { entries: r.entries(), words: r.words, directory: r.directory },
         Err(Refusal { number, place }) => Expected::Refused { number, place },
     };
     Vector { text: text.to_vec(), answer }

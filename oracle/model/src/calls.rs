@@ -1,7 +1,8 @@
 //! Calls of a re-reading: edits of accepted texts, in rooms from exact to ample, and altered or hostile words, directories, counts
 //! and texts.
 
-use crate::full::{records, Records};
+use crate::counter::LIMIT;
+use crate::full::{records, Records, ENTRY_WORDS};
 use judge::domain::DEPTH;
 use texts::rng::Rng;
 use texts::{cover, mutate};
@@ -32,7 +33,8 @@ pub fn call(older: &[u8], newer: Vec<u8>, spare: (usize, usize)) -> Option<Call>
 pub fn fixed(spare: (usize, usize)) -> (Vec<Call>, Vec<Call>) {
     let edits =
         cover::edits().into_iter().map(|(older, newer)| call(older.as_bytes(), newer.into_bytes(), spare));
-    (edits.collect::<Option<_>>().expect("older texts that are read"), kept_deep(spare))
+    let edits = edits.collect::<Option<_>>().expect("older texts that are read");
+    (edits, [kept_deep(spare), other_counters(spare)].concat())
 }
 
 /// A block deeper than a reading takes stands before the edit, behind it, at it: "nothing else is asked of a kept piece". The words lent
@@ -54,6 +56,37 @@ fn kept_deep(spare: (usize, usize)) -> Vec<Call> {
     ]
 }
 
+/// Third words that no reading left (M-106): of the piece from which old ones are kept, of those behind it, of
+/// the one at which reading begins, of those before it; and too large. An empty piece has the start of the next.
+fn other_counters(spare: (usize, usize)) -> Vec<Call> {
+    let older = "void @f(){ret i8 1 ret void x:ret void}";
+    let (first, last, head) =
+        (older.replace('1', "2"), older.replace("x:", "x:call i8 @g() "), older.replace("@f", "@g"));
+    let lent = |newer: &str, empty: &[u64], counters: &[(usize, u64)]| {
+        let mut call = call(older.as_bytes(), newer.as_bytes().to_vec(), spare).expect("a text that is read");
+        counters.iter().for_each(|&(i, counter)| call.directory[ENTRY_WORDS * i + 2] = counter);
+        empty.iter().rev().for_each(|&counter| put_in_empty(&mut call, 2, counter));
+        call
+    };
+    vec![
+        lent(&first, &[1], &[]),
+        lent(&first, &[2], &[]),
+        lent(&first, &[0, 1], &[]),
+        lent(&first, &[0, 1], &[(2, 7)]),
+        lent(&first, &[], &[(2, 0)]),
+        lent(&first, &[], &[(3, 5), (4, LIMIT)]),
+        lent(&first, &[], &[(2, 5), (4, 9)]),
+        lent(&last, &[], &[(0, 3), (1, 40)]),
+        lent(&last, &[], &[(3, 20)]),
+        lent(&last, &[], &[(3, LIMIT)]),
+        lent(&head, &[], &[(0, 6)]),
+        lent(&head, &[], &[(0, 6), (1, 6)]),
+        lent(&first, &[], &[(0, LIMIT + 1)]),
+        lent(&first, &[], &[(2, u64::MAX)]),
+        lent(&first, &[], &[(4, LIMIT + 1)]),
+    ]
+}
+
 fn holding(r: Records, older: &[u8], newer: Vec<u8>, spare: (usize, usize)) -> Call {
     let entries = r.entries() as u64;
     let (mut words, mut directory) = (r.words, r.directory);
@@ -65,7 +98,7 @@ fn holding(r: Records, older: &[u8], newer: Vec<u8>, spare: (usize, usize)) -> C
 /// Something in a call altered: the rule asks less of the older records than a reading gives.
 pub fn alter(rng: &mut Rng, call: &mut Call) {
     for _ in 0..=rng.few(3) {
-        match rng.below(9) {
+        match rng.below(12) {
             0 => one_word(rng, &mut call.words),
             1 => one_word(rng, &mut call.directory),
             2 => call.entries = other_count(rng, call.entries),
@@ -74,7 +107,9 @@ pub fn alter(rng: &mut Rng, call: &mut Call) {
             5 => call.directory.truncate(rng.below(call.directory.len() + 1)),
             6 => std::mem::swap(&mut call.older, &mut call.newer),
             7 => deeper(rng, call),
-            _ => empty_piece(rng, call),
+            8 => empty_piece(rng, call),
+            9 => empty_twin(rng, call),
+            _ => third_word(rng, call),
         }
     }
 }
@@ -98,12 +133,13 @@ fn one_word(rng: &mut Rng, array: &mut [u64]) {
 
 /// The text or the words of two neighbours divided otherwise; question 22 still says yes.
 fn move_border(rng: &mut Rng, call: &mut Call) {
-    let pieces = call.directory.len() / 2;
+    let pieces = call.directory.len() / ENTRY_WORDS;
     if pieces < 2 {
         return;
     }
     let (i, word) = (rng.below(pieces - 1), rng.below(2));
-    let (left, right) = (2 * i + word, 2 * i + 2 + word);
+    let left = ENTRY_WORDS * i + word;
+    let right = left + ENTRY_WORDS;
     let by = 1 + rng.few(12) as u64;
     let (a, b) = (call.directory[left], call.directory[right]);
     if a as u32 as u64 >= by && rng.one_in(2) {
@@ -134,14 +170,81 @@ fn deeper(rng: &mut Rng, call: &mut Call) {
     }
 }
 
-/// A piece of no length and no words put in at a border.
-fn empty_piece(rng: &mut Rng, call: &mut Call) {
-    let pieces = (call.entries as usize).min(call.directory.len() / 2);
+/// How many entries there are to alter.
+fn pieces(call: &Call) -> usize {
+    (call.entries.min(usize::MAX as u64) as usize).min(call.directory.len() / ENTRY_WORDS)
+}
+
+/// A third word: none, one off, at the limit and beyond, another piece's (M-106).
+fn other_counter(rng: &mut Rng, call: &Call, i: usize) -> u64 {
+    let (own, other) = (counter_at(call, i), counter_at(call, rng.below(pieces(call))));
+    rng.pick(&[
+        0,
+        own.wrapping_add(1),
+        own.wrapping_sub(1),
+        own,
+        other,
+        other,
+        other.wrapping_add(1),
+        LIMIT - 1,
+        LIMIT,
+        LIMIT + 1,
+        u64::MAX,
+        own ^ LIMIT,
+    ])
+}
+
+fn counter_at(call: &Call, i: usize) -> u64 {
+    call.directory[ENTRY_WORDS * i + 2]
+}
+
+/// The counter at one piece's start, or from one piece on, is another; question 22 mostly says yes.
+fn third_word(rng: &mut Rng, call: &mut Call) {
+    let pieces = pieces(call);
     if pieces == 0 {
         return;
     }
     let i = rng.below(pieces);
-    let empty = [call.directory[2 * i] >> 32 << 32, call.directory[2 * i + 1] >> 32 << 32];
-    call.directory.splice(2 * i..2 * i, empty);
+    let counter = other_counter(rng, call, i);
+    let by = counter.wrapping_sub(counter_at(call, i));
+    let last = if rng.one_in(3) { pieces } else { i + 1 };
+    for k in i..last {
+        let word = &mut call.directory[ENTRY_WORDS * k + 2];
+        *word = word.wrapping_add(by);
+    }
+}
+
+/// A piece of no length and no words put in at a border, with the third word of the piece behind it or
+/// another.
+fn empty_piece(rng: &mut Rng, call: &mut Call) {
+    let pieces = pieces(call);
+    if pieces == 0 {
+        return;
+    }
+    let i = rng.below(pieces);
+    let counter = if rng.one_in(2) { counter_at(call, i) } else { other_counter(rng, call, i) };
+    put_in_empty(call, i, counter);
+}
+
+/// Two of them, the first with a third word that does not agree: of several old pieces that start there
+/// the first whose counter agrees is kept.
+fn empty_twin(rng: &mut Rng, call: &mut Call) {
+    let pieces = pieces(call);
+    if pieces < 2 {
+        return;
+    }
+    let i = 1 + rng.below(pieces - 1);
+    let own = counter_at(call, i);
+    put_in_empty(call, i, own);
+    put_in_empty(call, i, own.wrapping_add(rng.pick(&[1, 2, u64::MAX])));
+    if rng.one_in(2) {
+        call.directory[ENTRY_WORDS * (i + 2) + 2] = own.wrapping_add(1);
+    }
+}
+
+fn put_in_empty(call: &mut Call, i: usize, counter: u64) {
+    let at = ENTRY_WORDS * i;
+    let empty = [call.directory[at] >> 32 << 32, call.directory[at + 1] >> 32 << 32, counter];
+    call.directory.splice(at..at, empty);
     call.entries = call.entries.wrapping_add(1);
 }

@@ -17,51 +17,61 @@ pub fn whole_text(text: &[u8]) -> Read<()> {
     }
 }
 
+/// A directory entry: where it starts and its length, its first word and word count, and the counter at
+/// its start (M-106).
+pub const ENTRY_WORDS: usize = 3;
+
 /// Records as they grow, with the room that they may take.
 pub struct Records {
     pub words: Vec<u64>,
     pub directory: Vec<u64>,
-    /// Where the next piece begins in the text.
+    /// Where the next piece begins in the text, and the counter there.
     pub at: usize,
+    pub counter: u64,
     word_room: usize,
     entry_room: usize,
 }
 
 impl Records {
     pub fn new(word_room: usize, entry_room: usize) -> Records {
-        Records { words: vec![], directory: vec![], at: 0, word_room, entry_room }
+        Records { words: vec![], directory: vec![], at: 0, counter: 0, word_room, entry_room }
     }
 
     pub fn entries(&self) -> usize {
-        self.directory.len() / 2
+        self.directory.len() / ENTRY_WORDS
     }
 
-    /// Adds a piece without a question: one kept in front.
-    pub fn keep(&mut self, length: usize, words: &[u64]) {
+    /// Adds a piece without a question, with its third word: one kept in front.
+    pub fn keep(&mut self, length: usize, words: &[u64], counter: u64) {
         self.directory.push((self.at as u64) << 32 | length as u64);
         self.directory.push((self.words.len() as u64) << 32 | words.len() as u64);
+        self.directory.push(counter);
         self.words.extend_from_slice(words);
         self.at += length;
     }
 
     /// Questions 20 and 21, at the end of a piece, which is then added.
-    pub fn add(&mut self, length: usize, words: &[u64]) -> Read<()> {
+    pub fn add(&mut self, length: usize, words: &[u64], counter: u64) -> Read<()> {
         let (end, place) = (self.words.len() + words.len(), self.at + length);
         if end > self.word_room || end as u64 >= 1 << 32 {
             return Err(Refusal { number: 20, place });
         }
-        if 2 * (self.entries() + 1) > self.entry_room {
+        if ENTRY_WORDS * (self.entries() + 1) > self.entry_room {
             return Err(Refusal { number: 21, place });
         }
-        self.keep(length, words);
+        self.keep(length, words, counter);
         Ok(())
     }
 
-    /// The piece that begins here, with places counted in the whole text.
-    pub fn read(&self, text: &[u8]) -> Read<Piece> {
+    /// The piece that begins here is read, with places counted in the whole text, and added.
+    pub fn read(&mut self, text: &[u8]) -> Read<Role> {
         let rest = &text[self.at..];
-        let piece = if self.entries() == 0 { head(rest) } else { block_or_tail(rest) };
-        piece.map_err(|r| Refusal { place: r.place + self.at, ..r })
+        let piece = if self.entries() == 0 { head(rest) } else { block_or_tail(rest, self.counter) };
+        let Piece { role, length, words, counter } =
+            piece.map_err(|r| Refusal { place: r.place + self.at, ..r })?;
+        self.add(length, &words, self.counter)?;
+        self.counter = counter;
+        Ok(role)
     }
 }
 
@@ -77,9 +87,7 @@ fn read_all(text: &[u8], words: usize, directory: usize) -> Read<Records> {
     whole_text(text)?;
     let mut records = Records::new(words, directory);
     loop {
-        let piece = records.read(text)?;
-        records.add(piece.length, &piece.words)?;
-        if piece.role == Role::Tail {
+        if records.read(text)? == Role::Tail {
             return Ok(records);
         }
     }

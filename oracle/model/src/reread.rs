@@ -1,7 +1,8 @@
 //! Re-reading after an edit, exactly by 01's rule, with what M-113 of 02 says of a refusal.
 
 use crate::body::Role;
-use crate::full::{fill, whole_text, Records};
+use crate::counter::LIMIT;
+use crate::full::{fill, whole_text, Records, ENTRY_WORDS};
 use crate::lexer::{is_word, Read, Refusal};
 
 #[derive(Clone, Copy, Debug, PartialEq, Eq)]
@@ -18,6 +19,7 @@ struct Entry {
     length: usize,
     first: usize,
     count: usize,
+    counter: u64,
 }
 
 impl Entry {
@@ -28,17 +30,17 @@ impl Entry {
 
 /// Question 22, and the entries when it is answered with yes.
 fn older_entries(older: &[u8], words: &[u64], directory: &[u64], count: u64) -> Option<Vec<Entry>> {
-    let within = directory.len() as u64 / 2;
+    let within = (directory.len() / ENTRY_WORDS) as u64;
     if count < 2 || count > within {
         return None;
     }
     let (mut at, mut word) = (0, 0);
     let mut entries = vec![];
-    for pair in directory.chunks_exact(2).take(count as usize) {
+    for entry in directory.chunks_exact(ENTRY_WORDS).take(count as usize) {
         let half = |w: u64| ((w >> 32) as usize, w as u32 as usize);
-        let ((start, length), (first, count)) = (half(pair[0]), half(pair[1]));
-        let entry = Entry { start, length, first, count };
-        if (start, first) != (at, word) {
+        let ((start, length), (first, count), counter) = (half(entry[0]), half(entry[1]), entry[2]);
+        let entry = Entry { start, length, first, count, counter };
+        if (start, first) != (at, word) || counter > LIMIT {
             return None;
         }
         (at, word) = (start + length, first + count);
@@ -91,18 +93,19 @@ fn reread(
     let old_words = |e: &Entry| &words[e.first..e.first + e.count];
     let mut records = Records::new(words.len(), directory.len());
     let first = (0..entries.len()).position(|i| !kept(newer, a, &entries, i)).unwrap_or(entries.len());
-    entries[..first].iter().for_each(|e| records.keep(e.length, old_words(e)));
+    entries[..first].iter().for_each(|e| records.keep(e.length, old_words(e), e.counter));
+    // M-106: reading begins with the third word of the old piece at which it begins, with 0 at the head.
+    records.counter = if first == 0 { 0 } else { entries.get(first).map_or(0, |e| e.counter) };
     let mut read = 0;
     while first < entries.len() {
-        let piece = records.read(newer)?;
-        records.add(piece.length, &piece.words)?;
+        let role = records.read(newer)?;
         read += 1;
-        if piece.role == Role::Tail {
+        if role == Role::Tail {
             break;
         }
-        if let Some(behind) = joins(older, newer, &entries, c, records.at) {
+        if let Some(behind) = joins(older, newer, &entries, c, &records) {
             for e in behind {
-                records.add(e.length, old_words(e))?;
+                records.add(e.length, old_words(e), e.counter)?;
             }
             break;
         }
@@ -111,14 +114,24 @@ fn reread(
     Ok((records, Reread { entries, first, read }))
 }
 
-/// The old pieces that may be kept behind, once the newer text has been read up to `at`.
-fn joins<'a>(older: &[u8], newer: &[u8], entries: &'a [Entry], c: usize, at: usize) -> Option<&'a [Entry]> {
-    let remaining = newer.len() - at;
+/// The old pieces that may be kept behind what has been read of the newer text: from the first that
+/// stands as far from the end and began with the same counter (M-106).
+fn joins<'a>(
+    older: &[u8],
+    newer: &[u8],
+    entries: &'a [Entry],
+    c: usize,
+    read: &Records,
+) -> Option<&'a [Entry]> {
+    let remaining = newer.len() - read.at;
     if remaining > c {
         return None;
     }
     let start = older.len() - remaining;
-    let first = (1..entries.len()).find(|&i| entries[i].start == start)?;
+    // Starts never fall, so those before this one are passed at once.
+    let from = 1 + entries[1..].partition_point(|e| e.start < start);
+    let mut there = (from..entries.len()).take_while(|&i| entries[i].start == start);
+    let first = there.find(|&i| entries[i].counter == read.counter)?;
     Some(&entries[first..])
 }
 

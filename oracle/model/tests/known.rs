@@ -17,7 +17,7 @@ fn refused(text: &str) -> (u64, usize) {
 fn pieces(text: &str) -> Vec<[u64; 4]> {
     let directory = records(text.as_bytes()).expect("accepted").directory;
     let entry = |p: &[u64]| [p[0] >> 32, p[0] & 0xffff_ffff, p[1] >> 32, p[1] & 0xffff_ffff];
-    directory.chunks(2).map(entry).collect()
+    directory.chunks(3).map(entry).collect()
 }
 
 #[test]
@@ -227,6 +227,7 @@ fn kept_deep() {
     let answers: Vec<_> = fixed((0, 0))
         .1
         .into_iter()
+        .take(3)
         .map(|mut c| reparse_define(&c.older, &c.newer, &mut c.words, &mut c.directory, c.entries))
         .collect();
     let read = |entries, first, read| Ok(Reread { entries, first, read });
@@ -286,11 +287,11 @@ fn read(text: &str, words: usize, directory: usize) -> (Vec<u64>, Vec<u64>, u64)
 }
 
 fn reread(older: &str, newer: &str) -> Reread {
-    let (mut w, mut d, entries) = read(older, 100, 40);
+    let (mut w, mut d, entries) = read(older, 100, 60);
     let report =
         reparse_define(older.as_bytes(), newer.as_bytes(), &mut w, &mut d, entries).expect("accepted");
     assert_eq!((w, d), {
-        let (w, d, _) = read(newer, 100, 40);
+        let (w, d, _) = read(newer, 100, 60);
         (w, d)
     });
     report
@@ -318,20 +319,21 @@ fn rooms() {
         assert!(result.is_ok() || w.iter().chain(&d).all(|&x| x == 0));
         result.map_err(|r| (r.number, r.place))
     };
-    assert_eq!(read(9, 8), Ok(4));
-    assert_eq!(read(8, 8), Err((20, 27)));
-    assert_eq!(read(5, 8), Err((20, 19)));
+    assert_eq!(read(9, 12), Ok(4));
+    assert_eq!(read(8, 12), Err((20, 27)));
+    assert_eq!(read(5, 12), Err((20, 19)));
     assert_eq!(read(2, 0), Err((20, 10)));
-    assert_eq!(read(3, 1), Err((21, 10)));
-    assert_eq!(read(9, 7), Err((21, 28)));
-    assert_eq!(read(8, 5), Err((20, 27)));
+    assert_eq!(read(3, 2), Err((21, 10)));
+    assert_eq!(read(9, 11), Err((21, 28)));
+    assert_eq!(read(8, 8), Err((20, 27)));
+    assert_eq!(read(9, 8), Err((21, 27)));
 }
 
 #[test]
 fn the_older_directory() {
     let text = "void @f(){ret void}";
     let asks = |change: &dyn Fn(&mut Vec<u64>, &mut u64)| {
-        let (mut w, mut d, mut entries) = read(text, 8, 7);
+        let (mut w, mut d, mut entries) = read(text, 8, 11);
         change(&mut d, &mut entries);
         let result = reparse_define(text.as_bytes(), text.as_bytes(), &mut w, &mut d, entries);
         result.err().map(|r| (r.number, r.place))
@@ -342,12 +344,12 @@ fn the_older_directory() {
     assert_eq!(asks(&|_, n| *n = 4), no);
     assert_eq!(asks(&|_, n| *n = u64::MAX), no);
     assert_eq!(asks(&|d, _| d[0] += 1 << 32), no);
-    assert_eq!(asks(&|d, _| d[4] += 1), no);
-    assert_eq!(asks(&|d, _| d[5] += 3), no);
-    assert_eq!(asks(&|d, _| d[5] += 2), None);
+    assert_eq!(asks(&|d, _| d[6] += 1), no);
+    assert_eq!(asks(&|d, _| d[7] += 3), no);
+    assert_eq!(asks(&|d, _| d[7] += 2), None);
     assert_eq!(
         asks(&|d, n| {
-            d[4] = 0;
+            d[6] = 0;
             *n = 2
         }),
         None

@@ -1,12 +1,14 @@
-//! The stored runs of the program `edit` (runs/edit): what the model makes of the same texts, line for line.
+//! The stored runs of the programs `pieces` and `edit` (runs/pieces, runs/edit): what the model makes of the same
+//! texts, line for line.
 
 use judge::position::position;
 use model::{parse_define, reparse_define, Refusal};
 use std::fs;
 use std::path::{Path, PathBuf};
 
-/// What the program takes and lends.
-const MOST_BYTES: usize = 131_072;
+/// What the programs take and lend.
+const MOST_BYTES: usize = 65_536;
+const MOST_BYTES_OF_EDIT: usize = 131_072;
 const WORDS: usize = 8192;
 const DIRECTORY_WORDS: usize = 2048;
 
@@ -19,7 +21,7 @@ fn listing(directory: &[u64], entries: usize) -> String {
     let half = |w: u64| (w >> 32, w & u64::from(u32::MAX));
     let mut out = String::new();
     let mut words = 0;
-    for (i, entry) in directory.chunks_exact(2).take(entries).enumerate() {
+    for (i, entry) in directory.chunks_exact(3).take(entries).enumerate() {
         let ((start, length), (first, count)) = (half(entry[0]), half(entry[1]));
         out.push_str(&format!("{i} {start} {length} {first} {count}\n"));
         words = first + count;
@@ -27,11 +29,23 @@ fn listing(directory: &[u64], entries: usize) -> String {
     format!("pieces {entries} words {words}\n{out}")
 }
 
+/// A full reading.
+fn pieces(input: &[u8]) -> String {
+    if input.len() > MOST_BYTES {
+        return "too long\n".to_string();
+    }
+    let (mut words, mut directory) = (vec![0; WORDS], vec![0; DIRECTORY_WORDS]);
+    match parse_define(input, &mut words, &mut directory) {
+        Ok(entries) => listing(&directory, entries),
+        Err(r) => refusal(input, r),
+    }
+}
+
 /// Texts with a byte 0 between them: the first in full, each other one as an edit of the last accepted text.
-fn printed(input: &[u8]) -> String {
+fn edit(input: &[u8]) -> String {
     let texts: Vec<&[u8]> = input.split(|&b| b == 0).collect();
     let (mut last, edits) = (texts[0], &texts[1..]);
-    if input.len() > MOST_BYTES {
+    if input.len() > MOST_BYTES_OF_EDIT {
         return "too long\n".to_string();
     }
     if edits.is_empty() {
@@ -55,9 +69,8 @@ fn printed(input: &[u8]) -> String {
     out + &listing(&directory, entries)
 }
 
-#[test]
-fn stored_runs_of_edit() {
-    let folder = Path::new(env!("CARGO_MANIFEST_DIR")).join("../../runs/edit");
+fn stored(name: &str, printed: fn(&[u8]) -> String) {
+    let folder = Path::new(env!("CARGO_MANIFEST_DIR")).join("../../runs").join(name);
     let files = fs::read_dir(folder).expect("the folder").map(|file| file.expect("a file").path());
     let given: Vec<PathBuf> = files.filter(|path| path.extension().is_some_and(|e| e == "in")).collect();
     assert!(given.len() > 14, "{} runs", given.len());
@@ -66,4 +79,14 @@ fn stored_runs_of_edit() {
         let stored = fs::read_to_string(path.with_extension("out")).expect("an output");
         assert_eq!(printed(&input), stored, "{}", path.display());
     }
+}
+
+#[test]
+fn stored_runs_of_pieces() {
+    stored("pieces", pieces);
+}
+
+#[test]
+fn stored_runs_of_edit() {
+    stored("edit", edit);
 }

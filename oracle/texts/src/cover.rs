@@ -223,7 +223,8 @@ const HEADS: &[&str] = &[
 ];
 
 /// Edits, older and newer text: a number out of its range in each piece; the parentheses of
-/// `dead_on_return` put in, taken out, left open; an `atomicrmw` made, altered, made wrong, in a tail.
+/// `dead_on_return` put in, taken out, left open; an `atomicrmw` made, altered, made wrong, in a tail;
+/// numbers (M-106) moved up to a label that catches up, to the end, out of sequence, and not at all.
 const EDITS: &[(&str, &str)] = &[
     ("void @f(i8 %x){ret void}", "void @f(i0 %x){ret void}"),
     ("void @f(){br label %a a: ret i8 1}", "void @f(){br label %a a: ret i008388609_ 1}"),
@@ -254,6 +255,70 @@ const EDITS: &[(&str, &str)] = &[
         "void @f(){ret void %x = atomicrmw add ptr %p, i8 1}",
         "void @f(){ret void %x = atomicrmw xor ptr %p, i8 1 acquire}",
     ),
+    ("void @f(){ ret i8 1 ret void 9:ret void}", "void @f(){ call i8 @g() ret i8 1 ret void 9:ret void}"),
+    ("void @f(){ ret i8 1 ret void x:ret void}", "void @f(){ call i8 @g() ret i8 1 ret void x:ret void}"),
+    ("void @f(){ ret i8 1 ret void x:ret void}", "void @f(){ call void @g() ret i8 1 ret void x:ret void}"),
+    (
+        "void @f(){ ret void %2=alloca i8 ret void ret i8 %2}",
+        "void @f(){ call i8 @g() ret void %2=alloca i8 ret void ret i8 %2}",
+    ),
+    ("void @f(){%1=call i8 @g()ret void ret void}", "void @f(){call i8 @g()ret void ret void}"),
+    ("void @f(i8){ret void 5:ret void}", "void @f(i8,i8){ret void 5:ret void}"),
+    ("void @f(){ret void 5:ret void}", "void @f(){ret void 7:ret void}"),
+    ("void @f(){ret void 7:ret void}", "void @f(){ret void 0:ret void}"),
+    ("void @f(){ret void a:ret void}", "void @f(){ret void 4294967296:ret void}"),
+    ("void @f(){ret void 4294967295:ret void}", "void @f(){ret void 4294967295:call i8 @g()ret void}"),
+];
+
+/// Numbers (M-106): what takes one, in which order, which names are numbers, labels, tails, none left.
+const NUMBERS: &[&str] = &[
+    // In order.
+    "void @f(){%0=freeze i8 1}", "void @f(){%1=freeze i8 1 ret void}", "void @f(i8,i8 %0){}",
+    "void @f(i8 %0,i8,i8 %2){}", "void @f(i8){ret void ret void}", "void @f(i8){0:ret void}",
+    "void @f(i8){1:ret void 2:ret void}", "void @f(){call i8 @g() %1=freeze i8 1 ret void}",
+    "void @f(i8 %3,i8){%5=call i8 @g(i8 %4) call i8 @g() %7=alloca i8 ret void 9:ret void ret void 11:}",
+    // Calls, void and not.
+    "void @f(){call void (i8) @g(i8 1) 0:ret void}", "void @f(){call void @g() %1=alloca i8 ret void}",
+    "void @f(){call i8 (i8) @g(i8 1) %1=alloca i8 ret void}",
+    "void @f(){call void (i8)* @g(i8 1) %2=alloca i8 ret void}",
+    "void @f(){call void (i8)* @g(i8 1) %1=alloca i8 ret void}", "void @f(){call {} @g() %1=alloca i8 ret void}",
+    "void @f(){call label @g() %2=alloca i8 ret void}", "void @f(){musttail call void @g() %1=alloca i8 ret void}",
+    "void @f(){notail call ptr @g() %1=alloca i8 ret void}", "void @f(){%9 = call void @g() %9=alloca i8}",
+    "void @f(){%9 = call void @g() %10=alloca i8 ret void ret void}",
+    // Uses, types and globals.
+    "void @0(%0 %5){%7=phi %0[%0,%1],[@0,%2]br label %3 x:switch i8 %4,label %0[i8 1,label %1]}",
+    // Which names are numbers.
+    "void @f(){%007=alloca i8 %7=alloca i8}", "void @f(){%007=alloca i8 %8=alloca i8 ret void}",
+    "void @f(i8 %3){%\"1\"=alloca i8 %\"\\31\"=alloca i8 %1_0=alloca i8 %1a=alloca i8 %-1=alloca i8 ret void}",
+    "void @f(i8 %3){1.:ret void 1_0:ret void \"0\":ret void \"\\30\":ret void 0a:ret void -1:ret void}",
+    "void @f(i8 %4294967295){}", "void @f(i8 %4294967296){}", "void @f(i8 %4294967297){}",
+    "void @f(i8 %18446744073709551616){}", "void @f(i8 %123456789012345678901234567890){}",
+    "void @f(i8 %000000000000000000000000000000007,i8 %8){}", "void @f(){%4294967295=alloca i8 ret void x:ret void}",
+    "void @f(){%4294967296=alloca i8", "void @f(){4294967295:ret void x:ret void}", "void @f(){4294967296:ret void}",
+    // Labels.
+    "void @f(){1:2:ret void 3:ret void}", "void @f(){2:1:ret void}", "void @f(){1:1:ret void}",
+    "void @f(){7:x:call i8 @g() ret i8 %8 8:ret void}", "void @f(){7:x:call i8 @g() ret i8 %8 9:ret void}",
+    "void @f(){fence a:ret void}", "void @f(){a:fence \"b c\":ret void}", "void @f(){ret void fence x:}",
+    "void @f(){fence 9:ret void}", "void @f(){call i8 @g() a:ret void}", "void @f(){call i8 @g() \"a\":ret void}",
+    "void @f(){call i8 @g() cold:ret void}", "void @f(){5 :ret void}", "void @f(){%x=alloca i8 x:}",
+    // The tail.
+    "void @f(){ret void 0:}", "void @f(){ret void 5:}", "void @f(){ret void x:}",
+    "void @f(){ret void %1=alloca i8}", "void @f(){ret void %2=alloca i8}", "void @f(){ret void 1:%1=alloca i8}",
+    "void @f(){ret void x:call i8 @g() %1=alloca i8}", "void @f(i8 %4294967295){fence}",
+    "void @f(i8 %4294967295){x:fence}", "void @f(i8 %4294967295){ }",
+    // No number left, and other questions at the same place.
+    "void @f(i8 %4294967295,i8 noundef ;c\n?", "void @f(i8 %4294967295,i8 noundef ;c\n){}",
+    "void @f(i8 %4294967295,i8){}", "void @f(i8 %4294967294,i8){}", "void @f(i8 %4294967295,i8 (i1) %x){}",
+    "void @f(i8 %4294967294,i8 (i1) %x){}", "void @f(i8 %4294967295,i8 %x,...){}",
+    "void @f(i8 %4294967294){call i8 @g() noundef, !x ret void}", "void @f(i8 %4294967294){call i8 @g()",
+    "void @f(i8 %4294967294){call void @g() ret void}", "void @f(i8 %4294967293){call i8 @g() ret void}",
+    "void @f(i8 %4294967295){ ;c\n ret void}", "void @f(i8 %4294967295){?", "void @f(i8 %4294967295){",
+    "void @f(i8 %4294967295){\"\":", "void @f(i8 %4294967295){\"\\q\"", "void @f(i8 %4294967295){\"a",
+    "void @f(i8 %4294967295){bogus", "void @f(i8 %4294967295){%", "void @f(i8 %4294967295){\"ret\" void}",
+    "void @f(i8 %4294967295){x:ret void}", "void @f(i8 %4294967295){x:ret void ret void}",
+    "void @f(i8 %4294967295){x:%\"0\"=alloca i8 ret void}", "void @f(i8 %4294967295){x:%4294967295=alloca i8",
+    // Before anything behind the name.
+    "void @f(i8){%0 ?", "void @f(i8){%2 ?", "void @f(i8,i8 %0 ?",
 ];
 
 /// Questions 2, 15, 17 and 18, which the Rust does not ask.
@@ -303,6 +368,7 @@ const RUNS: &[&[u8]] = &[
     include_bytes!("../../../runs/pieces/refused-16.in"),
     include_bytes!("../../../runs/pieces/refused-17.in"),
     include_bytes!("../../../runs/pieces/refused-18.in"),
+    include_bytes!("../../../runs/pieces/refused-26.in"),
 ];
 
 /// Nested to the limit and one deeper, in a type and in a value.
@@ -366,6 +432,7 @@ pub fn texts() -> Vec<Vec<u8>> {
     let mut out: Vec<String> = vec![];
     words(&mut out, HEADS, str::to_string);
     words(&mut out, OUTSIDE, str::to_string);
+    words(&mut out, NUMBERS, str::to_string);
     nested(&mut out);
     words(&mut out, LINKAGES, |w| format!("{w} void @f(){{}}"));
     words(&mut out, CCONVS, |w| format!("internal {w} noundef i8 @f(){{call {w} zeroext i8 @g() ret void}}"));

@@ -5,6 +5,7 @@ pub mod clang;
 pub mod cover;
 pub mod maker;
 pub mod mutate;
+pub mod numbers;
 pub mod numerals;
 pub mod rng;
 pub mod short;
@@ -17,9 +18,9 @@ use rng::Rng;
 pub enum Kind {
     /// Grammar-directed.
     Grammar,
-    /// One to three damages of a grammar-directed text.
+    /// One to three damages of a text of the pool.
     Mutated,
-    /// A grammar-directed text cut at each of its places in turn.
+    /// A text of the pool cut at each of its places in turn.
     Cut,
     /// A short string behind a prefix, all in turn.
     Short,
@@ -33,6 +34,8 @@ pub enum Kind {
     Clang,
     /// A function of clang damaged or cut.
     ClangMutated,
+    /// Functions in which the numbers are the point.
+    Numbered,
 }
 
 pub const KINDS: &[Kind] = &[
@@ -45,25 +48,27 @@ pub const KINDS: &[Kind] = &[
     Kind::Nesting,
     Kind::Clang,
     Kind::ClangMutated,
+    Kind::Numbered,
 ];
 
 /// How often each kind comes, in hundredths.
 const SHARES: &[(Kind, usize)] = &[
-    (Kind::Grammar, 30),
-    (Kind::Mutated, 30),
-    (Kind::Cut, 12),
-    (Kind::Short, 10),
+    (Kind::Grammar, 28),
+    (Kind::Mutated, 29),
+    (Kind::Cut, 11),
+    (Kind::Short, 9),
     (Kind::Number, 6),
     (Kind::Literal, 6),
     (Kind::Nesting, 2),
     (Kind::Clang, 1),
     (Kind::ClangMutated, 3),
+    (Kind::Numbered, 5),
 ];
 
 pub struct Texts {
     rng: Rng,
     clang: Vec<Vec<u8>>,
-    /// Grammar-directed texts to damage, renewed as the stream goes on.
+    /// Grammar-directed and numbered texts to damage, renewed as the stream goes on.
     pool: Vec<Vec<u8>>,
     /// The text being cut, and where next.
     cut: (Vec<u8>, usize),
@@ -118,14 +123,25 @@ impl Texts {
             Kind::Nesting => special::nesting(&mut self.rng),
             Kind::Clang => self.clang[self.rng.below(self.clang.len())].clone(),
             Kind::ClangMutated => self.clang_mutated(),
+            Kind::Numbered => self.numbered(),
         }
     }
 
     fn grammar(&mut self) -> Vec<u8> {
         let text = maker::function(&mut self.rng);
-        let at = self.rng.below(POOL);
-        self.pool[at].clone_from(&text);
+        self.keep(&text);
         text
+    }
+
+    fn numbered(&mut self) -> Vec<u8> {
+        let text = numbers::function(&mut self.rng);
+        self.keep(&text);
+        text
+    }
+
+    fn keep(&mut self, text: &Vec<u8>) {
+        let at = self.rng.below(POOL);
+        self.pool[at].clone_from(text);
     }
 
     fn mutated(&mut self) -> Vec<u8> {

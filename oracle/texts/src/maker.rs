@@ -1,5 +1,6 @@
 //! Grammar-directed texts: every form of the reader, with now and then a wrong one.
 
+use crate::numbers::{is_number, Sequence};
 use crate::rng::Rng;
 use crate::words::*;
 
@@ -22,20 +23,25 @@ pub struct Maker<'a> {
     wrong: usize,
     /// Types and values shrink as this falls.
     room: usize,
+    /// The numbers given so far (M-106), and whether names that are numbers go on with them.
+    numbers: Sequence,
+    orderly: bool,
 }
 
 /// One whole function.
 pub fn function(rng: &mut Rng) -> Vec<u8> {
     let space = rng.pick(&[Space::Tight, Space::One, Space::One, Space::Odd]);
     let wrong = rng.pick(&[0, 0, 0, 300, 100, 40]);
-    let mut maker = Maker { rng, out: vec![], space, wrong, room: 4 };
+    let orderly = !rng.one_in(5);
+    let mut maker = Maker { rng, out: vec![], space, wrong, room: 4, numbers: Sequence::default(), orderly };
     maker.function();
     maker.out
 }
 
 /// A function with one given statement, to see each form by itself.
 pub fn around(rng: &mut Rng, form: impl FnOnce(&mut Maker)) -> Vec<u8> {
-    let mut maker = Maker { rng, out: b"void @f(){".to_vec(), space: Space::One, wrong: 0, room: 3 };
+    let (out, numbers) = (b"void @f(){".to_vec(), Sequence::default());
+    let mut maker = Maker { rng, out, space: Space::One, wrong: 0, room: 3, numbers, orderly: true };
     form(&mut maker);
     maker.text(" ret void}");
     maker.out
@@ -132,6 +138,26 @@ impl Maker<'_> {
         self.name("%");
     }
 
+    /// One of these names for something that is named here; a number goes on with the sequence, unless
+    /// the function is not orderly.
+    fn own_name(&mut self, names: &[&str]) -> String {
+        let mut name = self.rng.pick(names).to_string();
+        if self.orderly && (is_number(&name) || self.rng.one_in(6)) {
+            name = self.numbers.right(self.rng);
+        }
+        self.numbers.name(&name);
+        name
+    }
+
+    /// The name of a parameter or destination.
+    fn own_local(&mut self) {
+        if self.wrong > 0 && self.rng.one_in(4 * self.wrong) {
+            return self.local();
+        }
+        let name = self.own_name(NAMES);
+        self.token(&format!("%{name}"));
+    }
+
     fn number(&mut self) {
         let n = crate::special::small_number(self.rng);
         self.token(&n);
@@ -174,8 +200,10 @@ impl Maker<'_> {
             }
             self.ty();
             self.attrs(6);
-            if !self.rng.one_in(4) {
-                self.local();
+            if self.rng.one_in(4) {
+                self.numbers.take();
+            } else {
+                self.own_local();
             }
         }
         if self.rng.one_in(10) {
@@ -252,20 +280,29 @@ impl Maker<'_> {
     // ---- types ----
 
     pub fn ty(&mut self) {
+        self.void_or_not();
+    }
+
+    /// A type; whether it is void.
+    fn void_or_not(&mut self) -> bool {
+        let mut void = false;
         if self.rng.one_in(2) {
             let word = self.rng.pick(&["i32", "i32", "i8", "i64", "i1", "ptr", "ptr", "double", "float"]);
             self.token(word);
         } else {
-            self.base_type();
+            void = self.base_type();
         }
         while self.rng.one_in(8) {
-            self.suffix();
+            void &= !self.suffix();
         }
+        void
     }
 
-    fn base_type(&mut self) {
+    /// Whether it is void.
+    fn base_type(&mut self) -> bool {
         let simple = self.room == 0;
-        match self.rng.below(if simple { 10 } else { 14 }) {
+        let form = self.rng.below(if simple { 10 } else { 14 });
+        match form {
             0 => self.token("void"),
             1 => self.token("float"),
             2 => self.token("double"),
@@ -289,6 +326,7 @@ impl Maker<'_> {
                 self.token(">");
             }
         }
+        form == 0
     }
 
     fn array(&mut self, open: &str, close: &str) {
@@ -306,7 +344,8 @@ impl Maker<'_> {
         self.token(close);
     }
 
-    fn suffix(&mut self) {
+    /// Whether it makes a pointer.
+    fn suffix(&mut self) -> bool {
         match self.rng.below(8) {
             0..=3 => self.token("*"),
             4 => {
@@ -321,11 +360,13 @@ impl Maker<'_> {
             }
             _ => {
                 self.inside(|m| m.type_list());
-                if !self.rng.one_in(8) {
-                    self.token("*");
+                if self.rng.one_in(8) {
+                    return false;
                 }
+                self.token("*");
             }
         }
+        true
     }
 
     pub fn type_list(&mut self) {
@@ -470,15 +511,14 @@ impl Maker<'_> {
     fn body(&mut self) {
         let blocks = if self.rng.one_in(12) { 4 + self.rng.few(6) } else { self.rng.few(4) };
         for i in 0..blocks {
-            if i > 0 || self.rng.one_in(3) {
-                self.label();
-            }
+            self.labelled_or_not(if i > 0 { 5 } else { 2 });
             for _ in 0..self.rng.few(4) {
                 self.inst();
             }
             self.terminator();
         }
         if self.rng.one_in(8) {
+            self.labelled_or_not(2);
             for _ in 0..=self.rng.few(2) {
                 self.inst();
             }
@@ -486,9 +526,18 @@ impl Maker<'_> {
         self.token("}");
     }
 
+    /// A block begins, in one of so many without a label.
+    fn labelled_or_not(&mut self, one_in: usize) {
+        if self.rng.one_in(one_in) {
+            self.numbers.take();
+        } else {
+            self.label();
+        }
+    }
+
     fn label(&mut self) {
-        let name = self.rng.pick(LABELS);
-        self.token(name);
+        let name = self.own_name(LABELS);
+        self.token(&name);
         self.text(":");
         if self.rng.one_in(10) {
             self.label();
@@ -496,7 +545,7 @@ impl Maker<'_> {
     }
 
     pub fn dest(&mut self) {
-        self.local();
+        self.own_local();
         self.token("=");
     }
 
@@ -521,7 +570,7 @@ impl Maker<'_> {
             23 => self.atomicrmw(),
             _ => self.fence(),
         }
-        if self.rng.one_in(60) {
+        if self.rng.one_in(if self.orderly { 300 } else { 20 }) {
             self.label();
         }
     }
@@ -691,7 +740,8 @@ impl Maker<'_> {
     }
 
     pub fn call(&mut self) {
-        if self.rng.one_in(2) {
+        let bare = self.rng.one_in(2);
+        if !bare {
             self.dest();
         }
         if self.rng.one_in(4) {
@@ -702,7 +752,10 @@ impl Maker<'_> {
             self.cconv();
         }
         self.attrs(6);
-        self.ty();
+        let void = self.void_or_not();
+        if bare && !void {
+            self.numbers.take();
+        }
         if self.rng.one_in(4) {
             self.type_list();
         }

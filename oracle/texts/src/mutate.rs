@@ -1,5 +1,6 @@
 //! Damaged copies of texts.
 
+use crate::numbers;
 use crate::rng::Rng;
 use crate::words::{GLUE, KEYWORDS, NAMES, SPACES};
 use judge::domain::DEPTH;
@@ -99,13 +100,14 @@ pub fn damage(rng: &mut Rng, text: &mut Vec<u8>, other: &[u8]) {
 /// A newer text for an older one that is not empty.
 pub fn edit(rng: &mut Rng, older: &[u8]) -> Vec<u8> {
     let mut newer = older.to_vec();
-    match rng.below(21) {
+    match rng.below(25) {
         0 | 1 => {}
         2 => nest(rng, &mut newer),
         3..=6 => insert(rng, &mut newer),
         7..=10 => replace(rng, &mut newer),
         11..=14 => delete(rng, &mut newer),
         15 | 16 => digit(rng, &mut newer),
+        17..=20 => numbers::edit(rng, &mut newer),
         _ => damage(
             rng, &mut newer,
             b" ret void %x = add i8 1, 2 %y = atomicrmw or ptr %p, i8 1 } addrspace: ret i8 1 ; c\n",
@@ -139,5 +141,5 @@ fn nest(rng: &mut Rng, text: &mut Vec<u8>) {
 
 /// Words and directory words beyond what the older text needs: exact fit to ample.
 pub fn spare(rng: &mut Rng) -> (usize, usize) {
-    (rng.pick(&[0, 0, 1, 2, 6, 1000]), rng.pick(&[0, 0, 1, 2, 4, 200]))
+    (rng.pick(&[0, 0, 1, 2, 6, 1000]), rng.pick(&[0, 0, 1, 2, 3, 6, 200]))
 }

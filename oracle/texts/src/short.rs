@@ -11,7 +11,8 @@ const PREFIXES: &[&str] = &[
     "void @f(){call i8 @g(", "void @f(){call i8 @g()", "void @f(){%x=alloca i8", "void @f(){%x=icmp ",
     "void @f(){%x=add ", "void @f(){%x=atomicrmw ", "void @f(){%x=atomicrmw volatile", "void @f(){%x=phi i8",
     "void @f(){switch i8 1,label %a[", "void @f(){ret i8 addrspace", "ptr addrspace(1)",
-    "void @f(){unreachable ",
+    "void @f(){unreachable ", "void @f(){fence ", "void @f(i8,i8 %", "void @f(i8 %4294967295,i8",
+    "void @f(i8 %4294967295){", "void @f(i8 %4294967294){call i8 @g()",
 ];
 
 /// Bytes that some test of the reader tells apart.

@@ -11,7 +11,7 @@ use Rattle.blocks.proofs.block_dry.Tie as tie
 returns : tie.Need-returns
 returns c =
     let c5 = c .before .before .before .before .before in
-    block-dry (drop (c5 .args .pos) (c5 .args .text .now)) (ap blockAt
+    block-dry (c5 .args .counter) (drop (c5 .args .pos) (c5 .args .text .now)) (ap (blockAt (c5 .args .counter))
     (sym (to-end (c5 .args .pos) (c5 .args .text .now)))) (c .before .parse-block .ensures .0)
 
 pub block-dry-spec : {M : Type 1} → statement M

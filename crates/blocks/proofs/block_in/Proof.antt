@@ -13,7 +13,7 @@ returns : tie.Need-returns
 returns c =
     let c2 = c .before .before in
     let c7 = c2 .before .before .before .before .before in
-    block-in (c7 .args .spot .word) (c7 .args .to) (c7 .args .words .now) (c2 .parse-block .last .1 .1 .0) (c7 .pre .1 .1 .0) (c7 .pre .1 .1 .1) (c2 .parse-block .ensures .1 ∙ mid-len (c7 .args .spot .word) (c7 .args .to) (c7 .args .words .now) (c7 .pre .1 .1 .1)) (drop (c7 .args .spot .pos) (c7 .args .text .now)) (ap blockAt
+    block-in (c7 .args .spot .word) (c7 .args .to) (c7 .args .words .now) (c2 .parse-block .last .1 .1 .0) (c7 .pre .1 .1 .0) (c7 .pre .1 .1 .1) (c2 .parse-block .ensures .1 ∙ mid-len (c7 .args .spot .word) (c7 .args .to) (c7 .args .words .now) (c7 .pre .1 .1 .1)) (c7 .args .spot .counter) (drop (c7 .args .spot .pos) (c7 .args .text .now)) (ap (blockAt (c7 .args .spot .counter))
     (sym
     (to-end (c7 .args .spot .pos) (c7 .args .text .now)))) (c2 .parse-block .ensures .0)
 

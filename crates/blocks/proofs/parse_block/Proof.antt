@@ -11,7 +11,7 @@ returns c =
     let c8 = c4 .before .before .before .before in
     let c12 = c8 .before .before .before .before in
     let c16 = c12 .before .before .before .before in
-    (tail-is (c16 .args .words .now) (c16 .pre .1) (c12 .push .ensures) (c8 .push2 .ensures) (c4 .parse-body .ensures) (c .before .if1 .taken) (c .tail-of .ensures), search needs)
+    (tail-is (c16 .args .counter) (c16 .args .words .now) (c16 .pre .1) (c12 .push .ensures) (c8 .push2 .ensures) (c4 .parse-body .ensures) (c .before .if1 .taken) (c .tail-of .ensures), search needs)
 
 returns-2 : tie.Need-returns-2
 returns-2 c =
@@ -21,7 +21,7 @@ returns-2 c =
     let c12 = c8 .before .before .before .before in
     let c16 = c12 .before .before .before .before in
     let c20 = c16 .before .before .before .before in
-    (block-is (c20 .args .words .now) (c20 .pre .1) (c16 .push .ensures) (c12 .push2 .ensures) (c8 .parse-body .ensures) (c5 .if1 .left) (c3 .finish-block .ensures) (c .piece-of .ensures), search needs)
+    (block-is (c20 .args .counter) (c20 .args .words .now) (c20 .pre .1) (c16 .push .ensures) (c12 .push2 .ensures) (c8 .parse-body .ensures) (c5 .if1 .left) (c3 .finish-block .ensures) (c .piece-of .ensures), search needs)
 
 pub parse-block-spec : {M : Type 1} → statement M
 parse-block-spec =

@@ -13,10 +13,10 @@ use Rattle.full.proofs.read_blocks.Statement.{statement}
 use Rattle.full.proofs.read_blocks.Tie as tie
 
 abbrev Inv-loop : tie.InvT-loop
-Inv-loop classes text words₀ directory₀ to lent number₀ pos₀ word₀ words directory number pos word = Come text to (lent .directory) number pos word words directory
+Inv-loop classes text words₀ directory₀ to lent number₀ pos₀ word₀ counter₀ words directory number pos word counter = Come text to (lent .directory) number pos word counter words directory
 
 abbrev μ-loop : tie.MeasureT-loop
-μ-loop classes text words₀ directory₀ to lent number₀ pos₀ word₀ words directory number pos word = length text - pos
+μ-loop classes text words₀ directory₀ to lent number₀ pos₀ word₀ counter₀ words directory number pos word counter = length text - pos
 
 loop-holds : tie.Need-loop-holds Inv-loop μ-loop
 loop-holds c = c .before .before .before .pre .1 .1
@@ -24,20 +24,20 @@ loop-holds c = c .before .before .before .pre .1 .1
 block-in-requires : tie.Need-block-in-requires Inv-loop μ-loop
 block-in-requires c κs = (c .before .before .before .before .before .pre .0, ((c .before .before .before .before .before .pre .1 .0, (c .before .loop .inv) .inside), ((c .before .loop .inv) .in-words, omega (arith, (c .before .loop .inv) .long-words))))
 
-add-t26 : tie.Need-add-t26 Inv-loop μ-loop
-add-t26 c =
+add-t28 : tie.Need-add-t28 Inv-loop μ-loop
+add-t28 c =
     let c5 = c .before .before .before .before .before in
     let c7 = c5 .before .before in
     let c11 = c7 .before .before .before .before in
     omega
-    (arith, (subst (BlockIn (drop (c7 .loop .pos) (c11 .args .text .now)) (c7 .loop .word) (length (c11 .args .words .now)) (c7 .loop .words) (c5 .block-in .last .1 .1 .0)) (c .before .q .given .1) (c5 .block-in .ensures)) .0 .inside, length-drop (c7 .loop .pos) (c11 .args .text .now), (c7 .loop .inv) .inside, c11 .pre .1 .0)
+    (arith, (subst (BlockIn (c7 .loop .counter) (drop (c7 .loop .pos) (c11 .args .text .now)) (c7 .loop .word) (length (c11 .args .words .now)) (c7 .loop .words) (c5 .block-in .last .1 .1 .0)) (c .before .q .given .1) (c5 .block-in .ensures)) .0 .inside, length-drop (c7 .loop .pos) (c11 .args .text .now), (c7 .loop .inv) .inside, c11 .pre .1 .0)
 
 same-length : tie.Need-same-length Inv-loop μ-loop
 same-length c =
     let c5 = c .before .before .before .before .before in
     let c7 = c5 .before .before in
     let c11 = c7 .before .before .before .before in
-    (subst (BlockIn (drop (c7 .loop .pos) (c11 .args .text .now)) (c7 .loop .word) (length (c11 .args .words .now)) (c7 .loop .words) (c5 .block-in .last .1 .1 .0)) (c .before .q .given .1) (c5 .block-in .ensures)) .1 ∙ (c7 .loop .inv) .long-words
+    (subst (BlockIn (c7 .loop .counter) (drop (c7 .loop .pos) (c11 .args .text .now)) (c7 .loop .word) (length (c11 .args .words .now)) (c7 .loop .words) (c5 .block-in .last .1 .1 .0)) (c .before .q .given .1) (c5 .block-in .ensures)) .1 ∙ (c7 .loop .inv) .long-words
 
 same-length-2 : tie.Need-same-length-2 Inv-loop μ-loop
 same-length-2 c = (c .before .before .before .before .before .before .before .loop .inv) .long-dir
@@ -48,8 +48,8 @@ returns c =
     let c5 = c1 .before .before .before .before in
     let c7 = c5 .before .before in
     let c11 = c7 .before .before .before .before in
-    block-bad (c11 .args .text .now) (length (c11 .args .words .now)) (length (c11 .args .directory .now)) (c7 .loop .number) (c7 .loop .pos) (c7 .loop .word) (c7 .loop .words) (c7 .loop .directory) (c7 .loop .inv) (c1 .q .given .0 .0) (c1 .q .given .0 .1 .0) (c5 .block-in .last .1 .1 .0) ((subst (BlockIn (drop (c7 .loop .pos) (c11 .args .text .now)) (c7 .loop .word) (length (c11 .args .words .now)) (c7 .loop .words) (c5 .block-in .last .1 .1 .0)) (c1 .q .given .1) (c5 .block-in .ensures)) .0 .is)
-    ((subst (BlockIn (drop (c7 .loop .pos) (c11 .args .text .now)) (c7 .loop .word) (length (c11 .args .words .now)) (c7 .loop .words) (c5 .block-in .last .1 .1 .0)) (c1 .q .given .1) (c5 .block-in .ensures)) .1)
+    block-bad (c11 .args .text .now) (length (c11 .args .words .now)) (length (c11 .args .directory .now)) (c7 .loop .number) (c7 .loop .pos) (c7 .loop .word) (c7 .loop .counter) (c7 .loop .words) (c7 .loop .directory) (c7 .loop .inv) (c1 .q .given .0 .0) (c1 .q .given .0 .1 .0) (c5 .block-in .last .1 .1 .0) ((subst (BlockIn (c7 .loop .counter) (drop (c7 .loop .pos) (c11 .args .text .now)) (c7 .loop .word) (length (c11 .args .words .now)) (c7 .loop .words) (c5 .block-in .last .1 .1 .0)) (c1 .q .given .1) (c5 .block-in .ensures)) .0 .is)
+    ((subst (BlockIn (c7 .loop .counter) (drop (c7 .loop .pos) (c11 .args .text .now)) (c7 .loop .word) (length (c11 .args .words .now)) (c7 .loop .words) (c5 .block-in .last .1 .1 .0)) (c1 .q .given .1) (c5 .block-in .ensures)) .1)
 
 ask-requires : tie.Need-ask-requires Inv-loop μ-loop
 ask-requires c κs =
@@ -59,8 +59,8 @@ ask-requires c κs =
     let c11 = c7 .before .before .before .before in
     omega (
       arith,
-      tail-inside (c11 .args .text .now) (length (c11 .args .words .now)) (length (c11 .args .directory .now)) (c7 .loop .number) (c7 .loop .pos) (c7 .loop .word) (c7 .loop .words) (c7 .loop .directory) (c7 .loop .inv) (c1 .bytes .given .0 .0) (c5 .block-in .last .1 .1 .0) ((subst (BlockIn (drop (c7 .loop .pos) (c11 .args .text .now)) (c7 .loop .word) (length (c11 .args .words .now)) (c7 .loop .words) (c5 .block-in .last .1 .1 .0)) (c1 .bytes .given .1) (c5 .block-in .ensures)) .0)
-          ((subst (BlockIn (drop (c7 .loop .pos) (c11 .args .text .now)) (c7 .loop .word) (length (c11 .args .words .now)) (c7 .loop .words) (c5 .block-in .last .1 .1 .0)) (c1 .bytes .given .1) (c5 .block-in .ensures)) .1),
+      tail-inside (c11 .args .text .now) (length (c11 .args .words .now)) (length (c11 .args .directory .now)) (c7 .loop .number) (c7 .loop .pos) (c7 .loop .word) (c7 .loop .counter) (c7 .loop .words) (c7 .loop .directory) (c7 .loop .inv) (c1 .bytes .given .0 .0) (c5 .block-in .last .1 .1 .0) ((subst (BlockIn (c7 .loop .counter) (drop (c7 .loop .pos) (c11 .args .text .now)) (c7 .loop .word) (length (c11 .args .words .now)) (c7 .loop .words) (c5 .block-in .last .1 .1 .0)) (c1 .bytes .given .1) (c5 .block-in .ensures)) .0)
+          ((subst (BlockIn (c7 .loop .counter) (drop (c7 .loop .pos) (c11 .args .text .now)) (c7 .loop .word) (length (c11 .args .words .now)) (c7 .loop .words) (c5 .block-in .last .1 .1 .0)) (c1 .bytes .given .1) (c5 .block-in .ensures)) .1),
       c11 .pre .1 .0,
     )
 
@@ -70,7 +70,7 @@ same-length-3 c =
     let c9 = c5 .before .before .before .before in
     let c11 = c9 .before .before in
     let c15 = c11 .before .before .before .before in
-    (subst (BlockIn (drop (c11 .loop .pos) (c15 .args .text .now)) (c11 .loop .word) (length (c15 .args .words .now)) (c11 .loop .words) (c9 .block-in .last .1 .1 .0)) (c5 .bytes .given .1) (c9 .block-in .ensures)) .1 .long ∙ (c11 .loop .inv) .long-words
+    (subst (BlockIn (c11 .loop .counter) (drop (c11 .loop .pos) (c15 .args .text .now)) (c11 .loop .word) (length (c15 .args .words .now)) (c11 .loop .words) (c9 .block-in .last .1 .1 .0)) (c5 .bytes .given .1) (c9 .block-in .ensures)) .1 .long ∙ (c11 .loop .inv) .long-words
 
 same-length-4 : tie.Need-same-length-4 Inv-loop μ-loop
 same-length-4 c = (c .before .before .before .before .before .before .before .before .before .before .before .loop .inv) .long-dir
@@ -83,7 +83,7 @@ returns-2 c =
     let c9 = c5 .before .before .before .before in
     let c11 = c9 .before .before in
     let c15 = c11 .before .before .before .before in
-    tail-room (c15 .args .text .now) (length (c15 .args .words .now)) (length (c15 .args .directory .now)) (c11 .loop .number) (c11 .loop .pos) (c11 .loop .word) (c11 .loop .words) (c11 .loop .directory) (c11 .loop .inv) (c5 .bytes .given .0 .0) (c9 .block-in .last .1 .1 .0) ((subst (BlockIn (drop (c11 .loop .pos) (c15 .args .text .now)) (c11 .loop .word) (length (c15 .args .words .now)) (c11 .loop .words) (c9 .block-in .last .1 .1 .0)) (c5 .bytes .given .1) (c9 .block-in .ensures)) .0) ((subst (BlockIn (drop (c11 .loop .pos) (c15 .args .text .now)) (c11 .loop .word) (length (c15 .args .words .now)) (c11 .loop .words) (c9 .block-in .last .1 .1 .0)) (c5 .bytes .given .1) (c9 .block-in .ensures)) .1) (c1 .q2 .given .0 .0) (c1 .q2 .given .0 .1 .0)
+    tail-room (c15 .args .text .now) (length (c15 .args .words .now)) (length (c15 .args .directory .now)) (c11 .loop .number) (c11 .loop .pos) (c11 .loop .word) (c11 .loop .counter) (c11 .loop .words) (c11 .loop .directory) (c11 .loop .inv) (c5 .bytes .given .0 .0) (c9 .block-in .last .1 .1 .0) ((subst (BlockIn (c11 .loop .counter) (drop (c11 .loop .pos) (c15 .args .text .now)) (c11 .loop .word) (length (c15 .args .words .now)) (c11 .loop .words) (c9 .block-in .last .1 .1 .0)) (c5 .bytes .given .1) (c9 .block-in .ensures)) .0) ((subst (BlockIn (c11 .loop .counter) (drop (c11 .loop .pos) (c15 .args .text .now)) (c11 .loop .word) (length (c15 .args .words .now)) (c11 .loop .words) (c9 .block-in .last .1 .1 .0)) (c5 .bytes .given .1) (c9 .block-in .ensures)) .1) (c1 .q2 .given .0 .0) (c1 .q2 .given .0 .1 .0)
     (subst (Asked (length (c15 .args .words .now)) (length (c15 .args .directory .now)) (c11 .loop .number) (c11 .loop .word) 0 ((c11 .loop .pos) + (c5 .bytes .given .0 .0))) (c1 .q2 .given .1) (c3 .ask .ensures))
 
 put-entry-requires : tie.Need-put-entry-requires Inv-loop μ-loop
@@ -103,8 +103,8 @@ put-entry-requires c κs =
         omega (arith, (c11 .loop .inv) .inside, c15 .pre .1 .0),
         omega (
           arith,
-          tail-inside (c15 .args .text .now) (length (c15 .args .words .now)) (length (c15 .args .directory .now)) (c11 .loop .number) (c11 .loop .pos) (c11 .loop .word) (c11 .loop .words) (c11 .loop .directory) (c11 .loop .inv) (c5 .bytes .given .0 .0) (c9 .block-in .last .1 .1 .0) ((subst (BlockIn (drop (c11 .loop .pos) (c15 .args .text .now)) (c11 .loop .word) (length (c15 .args .words .now)) (c11 .loop .words) (c9 .block-in .last .1 .1 .0)) (c5 .bytes .given .1) (c9 .block-in .ensures)) .0)
-              ((subst (BlockIn (drop (c11 .loop .pos) (c15 .args .text .now)) (c11 .loop .word) (length (c15 .args .words .now)) (c11 .loop .words) (c9 .block-in .last .1 .1 .0)) (c5 .bytes .given .1) (c9 .block-in .ensures)) .1),
+          tail-inside (c15 .args .text .now) (length (c15 .args .words .now)) (length (c15 .args .directory .now)) (c11 .loop .number) (c11 .loop .pos) (c11 .loop .word) (c11 .loop .counter) (c11 .loop .words) (c11 .loop .directory) (c11 .loop .inv) (c5 .bytes .given .0 .0) (c9 .block-in .last .1 .1 .0) ((subst (BlockIn (c11 .loop .counter) (drop (c11 .loop .pos) (c15 .args .text .now)) (c11 .loop .word) (length (c15 .args .words .now)) (c11 .loop .words) (c9 .block-in .last .1 .1 .0)) (c5 .bytes .given .1) (c9 .block-in .ensures)) .0)
+              ((subst (BlockIn (c11 .loop .counter) (drop (c11 .loop .pos) (c15 .args .text .now)) (c11 .loop .word) (length (c15 .args .words .now)) (c11 .loop .words) (c9 .block-in .last .1 .1 .0)) (c5 .bytes .given .1) (c9 .block-in .ensures)) .1),
           c15 .pre .1 .0,
         ),
         (c11 .loop .inv) .small,
@@ -112,8 +112,8 @@ put-entry-requires c κs =
       ),
     )
 
-add-t33 : tie.Need-add-t33 Inv-loop μ-loop
-add-t33 c =
+add-t35 : tie.Need-add-t35 Inv-loop μ-loop
+add-t35 c =
     omega
     (arith, (c .before .before .before .before .before .before .before .before .before .before .before .before .before .before .loop .inv) .in-dir)
 
@@ -123,7 +123,7 @@ same-length-5 c =
     let c12 = c8 .before .before .before .before in
     let c14 = c12 .before .before in
     let c18 = c14 .before .before .before .before in
-    (subst (BlockIn (drop (c14 .loop .pos) (c18 .args .text .now)) (c14 .loop .word) (length (c18 .args .words .now)) (c14 .loop .words) (c12 .block-in .last .1 .1 .0)) (c8 .bytes .given .1) (c12 .block-in .ensures)) .1 .long ∙ (c14 .loop .inv) .long-words
+    (subst (BlockIn (c14 .loop .counter) (drop (c14 .loop .pos) (c18 .args .text .now)) (c14 .loop .word) (length (c18 .args .words .now)) (c14 .loop .words) (c12 .block-in .last .1 .1 .0)) (c8 .bytes .given .1) (c12 .block-in .ensures)) .1 .long ∙ (c14 .loop .inv) .long-words
 
 same-length-6 : tie.Need-same-length-6 Inv-loop μ-loop
 same-length-6 c =
@@ -134,7 +134,7 @@ same-length-6 c =
     let c12 = c8 .before .before .before .before in
     let c14 = c12 .before .before in
     let c18 = c14 .before .before .before .before in
-    tail-whole (c18 .args .text .now) (length (c18 .args .words .now)) (length (c18 .args .directory .now)) (c14 .loop .number) (c14 .loop .pos) (c14 .loop .word) (c14 .loop .words) (c14 .loop .directory) (c14 .loop .inv) (c8 .bytes .given .0 .0) (c12 .block-in .last .1 .1 .0) ((subst (BlockIn (drop (c14 .loop .pos) (c18 .args .text .now)) (c14 .loop .word) (length (c18 .args .words .now)) (c14 .loop .words) (c12 .block-in .last .1 .1 .0)) (c8 .bytes .given .1) (c12 .block-in .ensures)) .0) ((subst (BlockIn (drop (c14 .loop .pos) (c18 .args .text .now)) (c14 .loop .word) (length (c18 .args .words .now)) (c14 .loop .words) (c12 .block-in .last .1 .1 .0)) (c8 .bytes .given .1) (c12 .block-in .ensures)) .1) (c2 .put-entry .last .0) (subst (Asked (length (c18 .args .words .now)) (length (c18 .args .directory .now)) (c14 .loop .number) (c14 .loop .word) 0 ((c14 .loop .pos) + (c8 .bytes .given .0 .0))) (c4 .enum-told .given .1) (c6 .ask .ensures)) (c2 .put-entry .ensures) .long-dir
+    tail-whole (c18 .args .text .now) (length (c18 .args .words .now)) (length (c18 .args .directory .now)) (c14 .loop .number) (c14 .loop .pos) (c14 .loop .word) (c14 .loop .counter) (c14 .loop .words) (c14 .loop .directory) (c14 .loop .inv) (c8 .bytes .given .0 .0) (c12 .block-in .last .1 .1 .0) ((subst (BlockIn (c14 .loop .counter) (drop (c14 .loop .pos) (c18 .args .text .now)) (c14 .loop .word) (length (c18 .args .words .now)) (c14 .loop .words) (c12 .block-in .last .1 .1 .0)) (c8 .bytes .given .1) (c12 .block-in .ensures)) .0) ((subst (BlockIn (c14 .loop .counter) (drop (c14 .loop .pos) (c18 .args .text .now)) (c14 .loop .word) (length (c18 .args .words .now)) (c14 .loop .words) (c12 .block-in .last .1 .1 .0)) (c8 .bytes .given .1) (c12 .block-in .ensures)) .1) (c2 .put-entry .last .0) (subst (Asked (length (c18 .args .words .now)) (length (c18 .args .directory .now)) (c14 .loop .number) (c14 .loop .word) 0 ((c14 .loop .pos) + (c8 .bytes .given .0 .0))) (c4 .enum-told .given .1) (c6 .ask .ensures)) (c2 .put-entry .ensures) .long-dir
 
 returns-3 : tie.Need-returns-3 Inv-loop μ-loop
 returns-3 c =
@@ -145,7 +145,7 @@ returns-3 c =
     let c12 = c8 .before .before .before .before in
     let c14 = c12 .before .before in
     let c18 = c14 .before .before .before .before in
-    tail-whole (c18 .args .text .now) (length (c18 .args .words .now)) (length (c18 .args .directory .now)) (c14 .loop .number) (c14 .loop .pos) (c14 .loop .word) (c14 .loop .words) (c14 .loop .directory) (c14 .loop .inv) (c8 .bytes .given .0 .0) (c12 .block-in .last .1 .1 .0) ((subst (BlockIn (drop (c14 .loop .pos) (c18 .args .text .now)) (c14 .loop .word) (length (c18 .args .words .now)) (c14 .loop .words) (c12 .block-in .last .1 .1 .0)) (c8 .bytes .given .1) (c12 .block-in .ensures)) .0) ((subst (BlockIn (drop (c14 .loop .pos) (c18 .args .text .now)) (c14 .loop .word) (length (c18 .args .words .now)) (c14 .loop .words) (c12 .block-in .last .1 .1 .0)) (c8 .bytes .given .1) (c12 .block-in .ensures)) .1) (c2 .put-entry .last .0) (subst (Asked (length (c18 .args .words .now)) (length (c18 .args .directory .now)) (c14 .loop .number) (c14 .loop .word) 0 ((c14 .loop .pos) + (c8 .bytes .given .0 .0))) (c4 .enum-told .given .1) (c6 .ask .ensures)) (c2 .put-entry .ensures)
+    tail-whole (c18 .args .text .now) (length (c18 .args .words .now)) (length (c18 .args .directory .now)) (c14 .loop .number) (c14 .loop .pos) (c14 .loop .word) (c14 .loop .counter) (c14 .loop .words) (c14 .loop .directory) (c14 .loop .inv) (c8 .bytes .given .0 .0) (c12 .block-in .last .1 .1 .0) ((subst (BlockIn (c14 .loop .counter) (drop (c14 .loop .pos) (c18 .args .text .now)) (c14 .loop .word) (length (c18 .args .words .now)) (c14 .loop .words) (c12 .block-in .last .1 .1 .0)) (c8 .bytes .given .1) (c12 .block-in .ensures)) .0) ((subst (BlockIn (c14 .loop .counter) (drop (c14 .loop .pos) (c18 .args .text .now)) (c14 .loop .word) (length (c18 .args .words .now)) (c14 .loop .words) (c12 .block-in .last .1 .1 .0)) (c8 .bytes .given .1) (c12 .block-in .ensures)) .1) (c2 .put-entry .last .0) (subst (Asked (length (c18 .args .words .now)) (length (c18 .args .directory .now)) (c14 .loop .number) (c14 .loop .word) 0 ((c14 .loop .pos) + (c8 .bytes .given .0 .0))) (c4 .enum-told .given .1) (c6 .ask .ensures)) (c2 .put-entry .ensures)
 
 ask-requires-2 : tie.Need-ask-requires-2 Inv-loop μ-loop
 ask-requires-2 c κs =
@@ -155,8 +155,8 @@ ask-requires-2 c κs =
     let c11 = c7 .before .before .before .before in
     omega (
       arith,
-      block-inside (c11 .args .text .now) (length (c11 .args .words .now)) (length (c11 .args .directory .now)) (c7 .loop .number) (c7 .loop .pos) (c7 .loop .word) (c7 .loop .words) (c7 .loop .directory) (c7 .loop .inv) (c1 .bytes2 .given .0 .0) (c1 .bytes2 .given .0 .1 .0) (c5 .block-in .last .1 .1 .0)
-          (subst (BlockIn (drop (c7 .loop .pos) (c11 .args .text .now)) (c7 .loop .word) (length (c11 .args .words .now)) (c7 .loop .words) (c5 .block-in .last .1 .1 .0)) (c1 .bytes2 .given .1) (c5 .block-in .ensures)),
+      block-inside (c11 .args .text .now) (length (c11 .args .words .now)) (length (c11 .args .directory .now)) (c7 .loop .number) (c7 .loop .pos) (c7 .loop .word) (c7 .loop .counter) (c7 .loop .words) (c7 .loop .directory) (c7 .loop .inv) (c1 .bytes2 .given .0 .0) (c1 .bytes2 .given .0 .1 .0) (c1 .bytes2 .given .0 .1 .1 .0) (c5 .block-in .last .1 .1 .0)
+          (subst (BlockIn (c7 .loop .counter) (drop (c7 .loop .pos) (c11 .args .text .now)) (c7 .loop .word) (length (c11 .args .words .now)) (c7 .loop .words) (c5 .block-in .last .1 .1 .0)) (c1 .bytes2 .given .1) (c5 .block-in .ensures)),
       c11 .pre .1 .0,
     )
 
@@ -166,7 +166,7 @@ same-length-7 c =
     let c9 = c5 .before .before .before .before in
     let c11 = c9 .before .before in
     let c15 = c11 .before .before .before .before in
-    (subst (BlockIn (drop (c11 .loop .pos) (c15 .args .text .now)) (c11 .loop .word) (length (c15 .args .words .now)) (c11 .loop .words) (c9 .block-in .last .1 .1 .0)) (c5 .bytes2 .given .1) (c9 .block-in .ensures)) .within .long ∙ (c11 .loop .inv) .long-words
+    (subst (BlockIn (c11 .loop .counter) (drop (c11 .loop .pos) (c15 .args .text .now)) (c11 .loop .word) (length (c15 .args .words .now)) (c11 .loop .words) (c9 .block-in .last .1 .1 .0)) (c5 .bytes2 .given .1) (c9 .block-in .ensures)) .within .long ∙ (c11 .loop .inv) .long-words
 
 same-length-8 : tie.Need-same-length-8 Inv-loop μ-loop
 same-length-8 c = (c .before .before .before .before .before .before .before .before .before .before .before .loop .inv) .long-dir
@@ -179,7 +179,7 @@ returns-4 c =
     let c9 = c5 .before .before .before .before in
     let c11 = c9 .before .before in
     let c15 = c11 .before .before .before .before in
-    block-room (c15 .args .text .now) (length (c15 .args .words .now)) (length (c15 .args .directory .now)) (c11 .loop .number) (c11 .loop .pos) (c11 .loop .word) (c11 .loop .words) (c11 .loop .directory) (c11 .loop .inv) (c5 .bytes2 .given .0 .0) (c5 .bytes2 .given .0 .1 .0) (c9 .block-in .last .1 .1 .0) (subst (BlockIn (drop (c11 .loop .pos) (c15 .args .text .now)) (c11 .loop .word) (length (c15 .args .words .now)) (c11 .loop .words) (c9 .block-in .last .1 .1 .0)) (c5 .bytes2 .given .1) (c9 .block-in .ensures)) (c1 .q3 .given .0 .0) (c1 .q3 .given .0 .1 .0)
+    block-room (c15 .args .text .now) (length (c15 .args .words .now)) (length (c15 .args .directory .now)) (c11 .loop .number) (c11 .loop .pos) (c11 .loop .word) (c11 .loop .counter) (c11 .loop .words) (c11 .loop .directory) (c11 .loop .inv) (c5 .bytes2 .given .0 .0) (c5 .bytes2 .given .0 .1 .0) (c5 .bytes2 .given .0 .1 .1 .0) (c9 .block-in .last .1 .1 .0) (subst (BlockIn (c11 .loop .counter) (drop (c11 .loop .pos) (c15 .args .text .now)) (c11 .loop .word) (length (c15 .args .words .now)) (c11 .loop .words) (c9 .block-in .last .1 .1 .0)) (c5 .bytes2 .given .1) (c9 .block-in .ensures)) (c1 .q3 .given .0 .0) (c1 .q3 .given .0 .1 .0)
     (subst (Asked (length (c15 .args .words .now)) (length (c15 .args .directory .now)) (c11 .loop .number) (c11 .loop .word) (c5 .bytes2 .given .0 .1 .0) ((c11 .loop .pos) + (c5 .bytes2 .given .0 .0))) (c1 .q3 .given .1) (c3 .ask2 .ensures))
 
 put-entry-requires-2 : tie.Need-put-entry-requires-2 Inv-loop μ-loop
@@ -200,8 +200,8 @@ put-entry-requires-2 c κs =
         omega (arith, (c11 .loop .inv) .inside, c15 .pre .1 .0),
         omega (
           arith,
-          block-inside (c15 .args .text .now) (length (c15 .args .words .now)) (length (c15 .args .directory .now)) (c11 .loop .number) (c11 .loop .pos) (c11 .loop .word) (c11 .loop .words) (c11 .loop .directory) (c11 .loop .inv) (c5 .bytes2 .given .0 .0) (c5 .bytes2 .given .0 .1 .0) (c9 .block-in .last .1 .1 .0)
-              (subst (BlockIn (drop (c11 .loop .pos) (c15 .args .text .now)) (c11 .loop .word) (length (c15 .args .words .now)) (c11 .loop .words) (c9 .block-in .last .1 .1 .0)) (c5 .bytes2 .given .1) (c9 .block-in .ensures)),
+          block-inside (c15 .args .text .now) (length (c15 .args .words .now)) (length (c15 .args .directory .now)) (c11 .loop .number) (c11 .loop .pos) (c11 .loop .word) (c11 .loop .counter) (c11 .loop .words) (c11 .loop .directory) (c11 .loop .inv) (c5 .bytes2 .given .0 .0) (c5 .bytes2 .given .0 .1 .0) (c5 .bytes2 .given .0 .1 .1 .0) (c9 .block-in .last .1 .1 .0)
+              (subst (BlockIn (c11 .loop .counter) (drop (c11 .loop .pos) (c15 .args .text .now)) (c11 .loop .word) (length (c15 .args .words .now)) (c11 .loop .words) (c9 .block-in .last .1 .1 .0)) (c5 .bytes2 .given .1) (c9 .block-in .ensures)),
           c15 .pre .1 .0,
         ),
         (c11 .loop .inv) .small,
@@ -226,8 +226,8 @@ add-pos c =
     let c18 = c14 .before .before .before .before in
     omega (
       arith,
-      block-inside (c18 .args .text .now) (length (c18 .args .words .now)) (length (c18 .args .directory .now)) (c14 .loop .number) (c14 .loop .pos) (c14 .loop .word) (c14 .loop .words) (c14 .loop .directory) (c14 .loop .inv) (c8 .bytes2 .given .0 .0) (c8 .bytes2 .given .0 .1 .0) (c12 .block-in .last .1 .1 .0)
-          (subst (BlockIn (drop (c14 .loop .pos) (c18 .args .text .now)) (c14 .loop .word) (length (c18 .args .words .now)) (c14 .loop .words) (c12 .block-in .last .1 .1 .0)) (c8 .bytes2 .given .1) (c12 .block-in .ensures)),
+      block-inside (c18 .args .text .now) (length (c18 .args .words .now)) (length (c18 .args .directory .now)) (c14 .loop .number) (c14 .loop .pos) (c14 .loop .word) (c14 .loop .counter) (c14 .loop .words) (c14 .loop .directory) (c14 .loop .inv) (c8 .bytes2 .given .0 .0) (c8 .bytes2 .given .0 .1 .0) (c8 .bytes2 .given .0 .1 .1 .0) (c12 .block-in .last .1 .1 .0)
+          (subst (BlockIn (c14 .loop .counter) (drop (c14 .loop .pos) (c18 .args .text .now)) (c14 .loop .word) (length (c18 .args .words .now)) (c14 .loop .words) (c12 .block-in .last .1 .1 .0)) (c8 .bytes2 .given .1) (c12 .block-in .ensures)),
       c18 .pre .1 .0,
     )
 
@@ -252,10 +252,10 @@ loop-less c =
     let c18 = c14 .before .before .before .before in
     omega (
       arith,
-      block-inside (c18 .args .text .now) (length (c18 .args .words .now)) (length (c18 .args .directory .now)) (c14 .loop .number) (c14 .loop .pos) (c14 .loop .word) (c14 .loop .words) (c14 .loop .directory) (c14 .loop .inv) (c8 .bytes2 .given .0 .0) (c8 .bytes2 .given .0 .1 .0) (c12 .block-in .last .1 .1 .0)
-          (subst (BlockIn (drop (c14 .loop .pos) (c18 .args .text .now)) (c14 .loop .word) (length (c18 .args .words .now)) (c14 .loop .words) (c12 .block-in .last .1 .1 .0)) (c8 .bytes2 .given .1) (c12 .block-in .ensures)),
-      block-on (c18 .args .text .now) (length (c18 .args .words .now)) (length (c18 .args .directory .now)) (c14 .loop .number) (c14 .loop .pos) (c14 .loop .word) (c14 .loop .words) (c14 .loop .directory) (c14 .loop .inv) (c8 .bytes2 .given .0 .0) (c8 .bytes2 .given .0 .1 .0) (c12 .block-in .last .1 .1 .0)
-          (subst (BlockIn (drop (c14 .loop .pos) (c18 .args .text .now)) (c14 .loop .word) (length (c18 .args .words .now)) (c14 .loop .words) (c12 .block-in .last .1 .1 .0)) (c8 .bytes2 .given .1) (c12 .block-in .ensures)),
+      block-inside (c18 .args .text .now) (length (c18 .args .words .now)) (length (c18 .args .directory .now)) (c14 .loop .number) (c14 .loop .pos) (c14 .loop .word) (c14 .loop .counter) (c14 .loop .words) (c14 .loop .directory) (c14 .loop .inv) (c8 .bytes2 .given .0 .0) (c8 .bytes2 .given .0 .1 .0) (c8 .bytes2 .given .0 .1 .1 .0) (c12 .block-in .last .1 .1 .0)
+          (subst (BlockIn (c14 .loop .counter) (drop (c14 .loop .pos) (c18 .args .text .now)) (c14 .loop .word) (length (c18 .args .words .now)) (c14 .loop .words) (c12 .block-in .last .1 .1 .0)) (c8 .bytes2 .given .1) (c12 .block-in .ensures)),
+      block-on (c18 .args .text .now) (length (c18 .args .words .now)) (length (c18 .args .directory .now)) (c14 .loop .number) (c14 .loop .pos) (c14 .loop .word) (c14 .loop .counter) (c14 .loop .words) (c14 .loop .directory) (c14 .loop .inv) (c8 .bytes2 .given .0 .0) (c8 .bytes2 .given .0 .1 .0) (c8 .bytes2 .given .0 .1 .1 .0) (c12 .block-in .last .1 .1 .0)
+          (subst (BlockIn (c14 .loop .counter) (drop (c14 .loop .pos) (c18 .args .text .now)) (c14 .loop .word) (length (c18 .args .words .now)) (c14 .loop .words) (c12 .block-in .last .1 .1 .0)) (c8 .bytes2 .given .1) (c12 .block-in .ensures)),
     )
 
 loop-again : tie.Need-loop-again Inv-loop μ-loop
@@ -267,7 +267,7 @@ loop-again c =
     let c12 = c8 .before .before .before .before in
     let c14 = c12 .before .before in
     let c18 = c14 .before .before .before .before in
-    block-come (c18 .args .text .now) (length (c18 .args .words .now)) (length (c18 .args .directory .now)) (c14 .loop .number) (c14 .loop .pos) (c14 .loop .word) (c14 .loop .words) (c14 .loop .directory) (c14 .loop .inv) (c8 .bytes2 .given .0 .0) (c8 .bytes2 .given .0 .1 .0) (c12 .block-in .last .1 .1 .0) (subst (BlockIn (drop (c14 .loop .pos) (c18 .args .text .now)) (c14 .loop .word) (length (c18 .args .words .now)) (c14 .loop .words) (c12 .block-in .last .1 .1 .0)) (c8 .bytes2 .given .1) (c12 .block-in .ensures)) (c2 .put-entry2 .last .0) (subst (Asked (length (c18 .args .words .now)) (length (c18 .args .directory .now)) (c14 .loop .number) (c14 .loop .word) (c8 .bytes2 .given .0 .1 .0) ((c14 .loop .pos) + (c8 .bytes2 .given .0 .0))) (c4 .enum-told2 .given .1) (c6 .ask2 .ensures)) (c2 .put-entry2 .ensures)
+    block-come (c18 .args .text .now) (length (c18 .args .words .now)) (length (c18 .args .directory .now)) (c14 .loop .number) (c14 .loop .pos) (c14 .loop .word) (c14 .loop .counter) (c14 .loop .words) (c14 .loop .directory) (c14 .loop .inv) (c8 .bytes2 .given .0 .0) (c8 .bytes2 .given .0 .1 .0) (c8 .bytes2 .given .0 .1 .1 .0) (c12 .block-in .last .1 .1 .0) (subst (BlockIn (c14 .loop .counter) (drop (c14 .loop .pos) (c18 .args .text .now)) (c14 .loop .word) (length (c18 .args .words .now)) (c14 .loop .words) (c12 .block-in .last .1 .1 .0)) (c8 .bytes2 .given .1) (c12 .block-in .ensures)) (c2 .put-entry2 .last .0) (subst (Asked (length (c18 .args .words .now)) (length (c18 .args .directory .now)) (c14 .loop .number) (c14 .loop .word) (c8 .bytes2 .given .0 .1 .0) ((c14 .loop .pos) + (c8 .bytes2 .given .0 .0))) (c4 .enum-told2 .given .1) (c6 .ask2 .ensures)) (c2 .put-entry2 .ensures)
 
 pub read-blocks-spec : {M : Type 1} → statement M
 read-blocks-spec =
@@ -278,7 +278,7 @@ read-blocks-spec =
     loop-holds
     block-in-requires
     (λ c. search needs)
-    add-t26
+    add-t28
     same-length
     same-length-2
     returns
@@ -290,7 +290,7 @@ read-blocks-spec =
     returns-2
     (λ c. search needs)
     put-entry-requires
-    add-t33
+    add-t35
     same-length-5
     same-length-6
     returns-3

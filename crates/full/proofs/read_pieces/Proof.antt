@@ -17,7 +17,7 @@ ask-requires c κs =
     let c5 = c1 .before .before .before .before in
     let c10 = c5 .before .before .before .before .before in
     omega
-    (arith, head-inside (c10 .args .text .now) (length (c10 .args .words .now)) (length (c10 .args .directory .now)) (c1 .bytes .given .0 .0) (c1 .bytes .given .0 .1 .0) (c10 .args .words .now) (c5 .head-in .last .1 .1 .0) (c10 .args .directory .now) (subst (HeadIn (c10 .args .text .now) 0 (length (c10 .args .words .now)) (c10 .args .words .now) (c5 .head-in .last .1 .1 .0)) (c1 .bytes .given .1) (c5 .head-in .ensures)) refl refl, c10 .pre .1)
+    (arith, head-inside (c10 .args .text .now) (length (c10 .args .words .now)) (length (c10 .args .directory .now)) (c1 .bytes .given .0 .0) (c1 .bytes .given .0 .1 .0) (c1 .bytes .given .0 .1 .1 .0) (c10 .args .words .now) (c5 .head-in .last .1 .1 .0) (c10 .args .directory .now) (subst (HeadIn (c10 .args .text .now) 0 (length (c10 .args .words .now)) (c10 .args .words .now) (c5 .head-in .last .1 .1 .0)) (c1 .bytes .given .1) (c5 .head-in .ensures)) refl refl, c10 .pre .1)
 
 put-entry-requires : tie.Need-put-entry-requires
 put-entry-requires c κs =
@@ -34,7 +34,7 @@ put-entry-requires c κs =
       (
         omega arith,
         omega
-            (arith, head-inside (c14 .args .text .now) (length (c14 .args .words .now)) (length (c14 .args .directory .now)) (c5 .bytes .given .0 .0) (c5 .bytes .given .0 .1 .0) (c14 .args .words .now) (c9 .head-in .last .1 .1 .0) (c14 .args .directory .now) (subst (HeadIn (c14 .args .text .now) 0 (length (c14 .args .words .now)) (c14 .args .words .now) (c9 .head-in .last .1 .1 .0)) (c5 .bytes .given .1) (c9 .head-in .ensures)) refl refl, c14 .pre .1),
+            (arith, head-inside (c14 .args .text .now) (length (c14 .args .words .now)) (length (c14 .args .directory .now)) (c5 .bytes .given .0 .0) (c5 .bytes .given .0 .1 .0) (c5 .bytes .given .0 .1 .1 .0) (c14 .args .words .now) (c9 .head-in .last .1 .1 .0) (c14 .args .directory .now) (subst (HeadIn (c14 .args .text .now) 0 (length (c14 .args .words .now)) (c14 .args .words .now) (c9 .head-in .last .1 .1 .0)) (c5 .bytes .given .1) (c9 .head-in .ensures)) refl refl, c14 .pre .1),
         omega arith,
         omega (
           arith,
@@ -55,8 +55,8 @@ read-blocks-requires c κs =
       c19 .pre .0,
       (
         c19 .pre .1,
-        come-own (c19 .args .text .now) (length (c19 .args .words .now)) (length (c19 .args .directory .now)) 1 (c10 .bytes .given .0 .0) (c10 .bytes .given .0 .1 .0) (c14 .head-in .last .1 .1 .0) (c4 .put-entry .last .0)
-            (head-come (c19 .args .text .now) (length (c19 .args .words .now)) (length (c19 .args .directory .now)) (c10 .bytes .given .0 .0) (c10 .bytes .given .0 .1 .0) (c19 .args .words .now) (c14 .head-in .last .1 .1 .0) (c19 .args .directory .now) (subst (HeadIn (c19 .args .text .now) 0 (length (c19 .args .words .now)) (c19 .args .words .now) (c14 .head-in .last .1 .1 .0)) (c10 .bytes .given .1) (c14 .head-in .ensures)) refl refl (c4 .put-entry .last .0) (subst (Asked (length (c19 .args .words .now)) (length (c19 .args .directory .now)) 0 0 (c10 .bytes .given .0 .1 .0) (0 + c10 .bytes .given .0 .0)) (c6 .enum-told2 .given .1) (c8 .ask .ensures)) (c4 .put-entry .ensures)),
+        come-own (c19 .args .text .now) (length (c19 .args .words .now)) (length (c19 .args .directory .now)) 1 (c10 .bytes .given .0 .0) (c10 .bytes .given .0 .1 .0) (c10 .bytes .given .0 .1 .1 .0) (c14 .head-in .last .1 .1 .0) (c4 .put-entry .last .0)
+            (head-come (c19 .args .text .now) (length (c19 .args .words .now)) (length (c19 .args .directory .now)) (c10 .bytes .given .0 .0) (c10 .bytes .given .0 .1 .0) (c10 .bytes .given .0 .1 .1 .0) (c19 .args .words .now) (c14 .head-in .last .1 .1 .0) (c19 .args .directory .now) (subst (HeadIn (c19 .args .text .now) 0 (length (c19 .args .words .now)) (c19 .args .words .now) (c14 .head-in .last .1 .1 .0)) (c10 .bytes .given .1) (c14 .head-in .ensures)) refl refl (c4 .put-entry .last .0) (subst (Asked (length (c19 .args .words .now)) (length (c19 .args .directory .now)) 0 0 (c10 .bytes .given .0 .1 .0) (0 + c10 .bytes .given .0 .0)) (c6 .enum-told2 .given .1) (c8 .ask .ensures)) (c4 .put-entry .ensures)),
       ),
     )
 
@@ -81,7 +81,7 @@ returns-3 c =
     let c5 = c3 .before .before in
     let c9 = c5 .before .before .before .before in
     let c14 = c9 .before .before .before .before .before in
-    head-room (c14 .args .text .now) (length (c14 .args .words .now)) (length (c14 .args .directory .now)) (c5 .bytes .given .0 .0) (c5 .bytes .given .0 .1 .0) (c14 .args .words .now) (c9 .head-in .last .1 .1 .0) (c14 .args .directory .now) (subst (HeadIn (c14 .args .text .now) 0 (length (c14 .args .words .now)) (c14 .args .words .now) (c9 .head-in .last .1 .1 .0)) (c5 .bytes .given .1) (c9 .head-in .ensures)) refl refl (c1 .q2 .given .0 .0) (c1 .q2 .given .0 .1 .0)
+    head-room (c14 .args .text .now) (length (c14 .args .words .now)) (length (c14 .args .directory .now)) (c5 .bytes .given .0 .0) (c5 .bytes .given .0 .1 .0) (c5 .bytes .given .0 .1 .1 .0) (c14 .args .words .now) (c9 .head-in .last .1 .1 .0) (c14 .args .directory .now) (subst (HeadIn (c14 .args .text .now) 0 (length (c14 .args .words .now)) (c14 .args .words .now) (c9 .head-in .last .1 .1 .0)) (c5 .bytes .given .1) (c9 .head-in .ensures)) refl refl (c1 .q2 .given .0 .0) (c1 .q2 .given .0 .1 .0)
     (subst (Asked (length (c14 .args .words .now)) (length (c14 .args .directory .now)) 0 0 (c5 .bytes .given .0 .1 .0) (0 + c5 .bytes .given .0 .0)) (c1 .q2 .given .1) (c3 .ask .ensures))
 
 returns-4 : tie.Need-returns-4
@@ -93,7 +93,7 @@ returns-4 c =
     let c15 = c13 .before .before in
     let c19 = c15 .before .before .before .before in
     let c24 = c19 .before .before .before .before .before in
-    ended-as (c24 .args .text .now) (length (c24 .args .words .now)) (length (c19 .head-in .last .1 .1 .0)) (length (c24 .args .directory .now)) (length (c9 .put-entry .last .0)) (c4 .read-blocks .last .1 .1 .0) (c4 .read-blocks .last .1 .1 .1 .0) (c4 .read-blocks .result) ((head-come (c24 .args .text .now) (length (c24 .args .words .now)) (length (c24 .args .directory .now)) (c15 .bytes .given .0 .0) (c15 .bytes .given .0 .1 .0) (c24 .args .words .now) (c19 .head-in .last .1 .1 .0) (c24 .args .directory .now) (subst (HeadIn (c24 .args .text .now) 0 (length (c24 .args .words .now)) (c24 .args .words .now) (c19 .head-in .last .1 .1 .0)) (c15 .bytes .given .1) (c19 .head-in .ensures)) refl refl (c9 .put-entry .last .0) (subst (Asked (length (c24 .args .words .now)) (length (c24 .args .directory .now)) 0 0 (c15 .bytes .given .0 .1 .0) (0 + c15 .bytes .given .0 .0)) (c11 .enum-told2 .given .1) (c13 .ask .ensures)) (c9 .put-entry .ensures)) .long-words) ((head-come (c24 .args .text .now) (length (c24 .args .words .now)) (length (c24 .args .directory .now)) (c15 .bytes .given .0 .0) (c15 .bytes .given .0 .1 .0) (c24 .args .words .now) (c19 .head-in .last .1 .1 .0) (c24 .args .directory .now) (subst (HeadIn (c24 .args .text .now) 0 (length (c24 .args .words .now)) (c24 .args .words .now) (c19 .head-in .last .1 .1 .0)) (c15 .bytes .given .1) (c19 .head-in .ensures)) refl refl (c9 .put-entry .last .0) (subst (Asked (length (c24 .args .words .now)) (length (c24 .args .directory .now)) 0 0 (c15 .bytes .given .0 .1 .0) (0 + c15 .bytes .given .0 .0)) (c11 .enum-told2 .given .1) (c13 .ask .ensures)) (c9 .put-entry .ensures)) .long-dir) (c4 .read-blocks .ensures)
+    ended-as (c24 .args .text .now) (length (c24 .args .words .now)) (length (c19 .head-in .last .1 .1 .0)) (length (c24 .args .directory .now)) (length (c9 .put-entry .last .0)) (c4 .read-blocks .last .1 .1 .0) (c4 .read-blocks .last .1 .1 .1 .0) (c4 .read-blocks .result) ((head-come (c24 .args .text .now) (length (c24 .args .words .now)) (length (c24 .args .directory .now)) (c15 .bytes .given .0 .0) (c15 .bytes .given .0 .1 .0) (c15 .bytes .given .0 .1 .1 .0) (c24 .args .words .now) (c19 .head-in .last .1 .1 .0) (c24 .args .directory .now) (subst (HeadIn (c24 .args .text .now) 0 (length (c24 .args .words .now)) (c24 .args .words .now) (c19 .head-in .last .1 .1 .0)) (c15 .bytes .given .1) (c19 .head-in .ensures)) refl refl (c9 .put-entry .last .0) (subst (Asked (length (c24 .args .words .now)) (length (c24 .args .directory .now)) 0 0 (c15 .bytes .given .0 .1 .0) (0 + c15 .bytes .given .0 .0)) (c11 .enum-told2 .given .1) (c13 .ask .ensures)) (c9 .put-entry .ensures)) .long-words) ((head-come (c24 .args .text .now) (length (c24 .args .words .now)) (length (c24 .args .directory .now)) (c15 .bytes .given .0 .0) (c15 .bytes .given .0 .1 .0) (c15 .bytes .given .0 .1 .1 .0) (c24 .args .words .now) (c19 .head-in .last .1 .1 .0) (c24 .args .directory .now) (subst (HeadIn (c24 .args .text .now) 0 (length (c24 .args .words .now)) (c24 .args .words .now) (c19 .head-in .last .1 .1 .0)) (c15 .bytes .given .1) (c19 .head-in .ensures)) refl refl (c9 .put-entry .last .0) (subst (Asked (length (c24 .args .words .now)) (length (c24 .args .directory .now)) 0 0 (c15 .bytes .given .0 .1 .0) (0 + c15 .bytes .given .0 .0)) (c11 .enum-told2 .given .1) (c13 .ask .ensures)) (c9 .put-entry .ensures)) .long-dir) (c4 .read-blocks .ensures)
 
 pub read-pieces-spec : {M : Type 1} → statement M
 read-pieces-spec =

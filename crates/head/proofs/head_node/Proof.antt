@@ -70,7 +70,7 @@ returns c =
     (then-paid 2 _ {c = 1} (c11 .parse-param-list .ensures .0)
     (λ ws. val _ (c8 .skip-attrs3 .ensures)
     (val _ (c6 .before .eat-ws .ensures)
-    (shut-is _ _ _ _ (c6 .looks .ensures) (c4 .before .if1 .taken) (c4 .pass .ensures) (c2 .close .ensures))))))))))))))
+    (shut-is _ _ _ _ _ (c6 .looks .ensures) (c4 .before .if1 .taken) (c4 .pass .ensures) (c2 .close .ensures))))))))))))))
 
 same-length-2 : tie.Need-same-length-2
 same-length-2 c =

@@ -8,7 +8,7 @@ returns : tie.Need-returns
 returns c =
     let c3 = c .before .before .before in (
       rw (c .piece-of .ensures)
-          (head-is (c3 .before .before .before .before .pre .1) (c3 .head-node .ensures)),
+          (head-is _ (c3 .before .before .before .before .pre .1) (c3 .head-node .ensures)),
       c3 .head-node .kept .1 .1 .0,
     )
 

@@ -2,8 +2,8 @@
 use mathlib.Core.Path.{refl, _∙_}
 use mathlib.Core.List.{[], _∷_}
 use Rattle.grammar.specs.Body.{paramOf, parseParam}
-use Rattle.lexer.proofs.Laws.{val, byte-yes, byte-no}
-use Rattle.writer.proofs.Laws.{push-then, patch-then, close-is}
+use Rattle.lexer.proofs.Laws.{val, byte-yes, byte-no, place-at, done}
+use Rattle.writer.proofs.Laws.{push-then, patch-then, close-then}
 use Rattle.head.proofs.HeadLaws.{param-type, still-param}
 use borrow.Author.Needs.{needs}
 use Rattle.head.proofs.parse_param.Statement.{statement}
@@ -29,12 +29,12 @@ returns c =
     let c20 = c16 .before .before .before .before in
     λ q. push-then _ (c20 .before .before .before .before .push .ensures)
     (push-then _ (c20 .push2 .ensures)
-    (param-type q _ (c16 .parse-type .ensures) still-param
+    (param-type q _ _ _ (c16 .parse-type .ensures) (still-param _)
     (λ t. val _ (c12 .before .skip-attrs .ensures)
     (val _ (c12 .eat-ws .ensures)
     (byte-yes _ _ (c10 .before .looks .ensures) (c10 .if1 .taken) (c8 .before .pass .ensures)
-    (val _ (c8 .name-word .ensures)
-    (patch-then 1 _ (0 ∷ []) 0 t refl (c6 .patch .ensures) (close-is _ _ _ _ (c2 .close .ensures)))))))))
+    (val _ (c8 .counted-name .ensures)
+    (patch-then 1 _ (0 ∷ []) 0 t refl (c6 .patch .ensures) (close-then _ _ _ _ (c2 .close .ensures) done))))))))
 
 returns-2 : tie.Need-returns-2
 unfolding parseParam paramOf
@@ -42,14 +42,15 @@ returns-2 c =
     let c2 = c .before .before in
     let c4 = c2 .before .before in
     let c6 = c4 .before .before in
-    let c10 = c6 .before .before .before .before in
-    let c14 = c10 .before .before .before .before in
-    λ q. push-then _ (c14 .before .before .before .before .push .ensures)
-    (push-then _ (c14 .push2 .ensures)
-    (param-type q _ (c10 .parse-type .ensures) still-param
-    (λ t. val _ (c6 .before .skip-attrs .ensures)
-    (val _ (c6 .eat-ws .ensures)
-    (byte-no _ _ (c4 .before .looks .ensures) (c4 .if1 .left) (close-is _ _ _ _ (c2 .close2 .ensures)))))))
+    let c8 = c6 .before .before in
+    let c12 = c8 .before .before .before .before in
+    let c16 = c12 .before .before .before .before in
+    λ q. push-then _ (c16 .before .before .before .before .push .ensures)
+    (push-then _ (c16 .push2 .ensures)
+    (param-type q _ _ _ (c12 .parse-type .ensures) (still-param _)
+    (λ t. val _ (c8 .before .skip-attrs .ensures)
+    (val _ (c8 .eat-ws .ensures)
+    (byte-no _ _ (c6 .before .looks .ensures) (c6 .if1 .left) (place-at _ _ (c4 .before .place .ensures) (λ m. val _ (c4 .take-next .ensures _) (close-then _ _ _ _ (c2 .close2 .ensures) done))))))))
 
 pub parse-param-spec : {M : Type 1} → statement M
 parse-param-spec =
@@ -59,5 +60,5 @@ parse-param-spec =
     (λ c. search needs) (λ c. search needs) (λ c. search needs)
     same-length
     returns
-    (λ c. search needs) (λ c. search needs)
+    (λ c. search needs) (λ c. search needs) (λ c. search needs) (λ c. search needs)
     returns-2)

@@ -4,19 +4,18 @@ use mathlib.Core.Path.{_≡_, refl, _∙_}
 use mathlib.Core.List.{[]}
 use native.Mathlib.Omega.{arith}
 use lib.ListN.{length}
-use Rattle.grammar.specs.Body.{parseParamList}
+use Rattle.grammar.specs.Body.{parseParams, parseParamList}
 use Rattle.lexer.specs.Reads.{Leads, reach}
 use Rattle.lexer.proofs.Laws.{done, val, byte-yes, byte-no, call}
-use Rattle.types.proofs.TypeLaws.{dots-here, dots-out}
-use Rattle.head.proofs.HeadLaws.{paying, stay-paid, go-on-paid, paramsOf, params-more, params-end}
+use Rattle.head.proofs.HeadLaws.{paying, stay-paid, go-on-paid, params-dots, params-out, params-more, params-end}
 use Rattle.head.proofs.parse_param_list.Statement.{statement}
 use Rattle.head.proofs.parse_param_list.Tie as tie
 
 abbrev Inv-loop : tie.InvT-loop
-Inv-loop classes text words₀ q₀ left₀ n₀ words q left n = Leads (paramsOf 65536 1 []) 2 [] (paying 2 (reach (paramsOf left n) text q₀)) text q₀ q₀ words₀ q words × (length words ≡ length words₀)
+Inv-loop classes text words₀ q₀ left₀ n₀ c₀ words q left n c = Leads (parseParams 65536 0 1 []) 2 [] (paying 2 (reach (parseParams left c n) text q₀)) text q₀ q₀ words₀ q words × (length words ≡ length words₀)
 
 abbrev μ-loop : tie.MeasureT-loop
-μ-loop classes text words₀ q₀ left₀ n₀ words q left n = left
+μ-loop classes text words₀ q₀ left₀ n₀ c₀ words q left n c = left
 
 returns : tie.Need-returns Inv-loop μ-loop
 unfolding parseParamList
@@ -27,7 +26,7 @@ returns c = (
 )
 
 loop-holds : tie.Need-loop-holds Inv-loop μ-loop
-loop-holds c = (stay-paid 2 (paramsOf 65536 1) (omega arith), refl)
+loop-holds c = (stay-paid 2 (parseParams 65536 0 1) (omega arith), refl)
 
 same-length : tie.Need-same-length Inv-loop μ-loop
 same-length c = c .before .before .before .before .before .before .loop .inv .1
@@ -43,7 +42,7 @@ returns-2 c =
           (byte-no _ _ (c8 .looks .ensures) (c6 .before .if1 .left)
           (call 2 (omega arith)
           (go-on-paid 2 (c6 .loop .inv .0)
-          (λ ws. dots-here (c6 .loop .left) 1 1 5 (c6 .loop .n) _ ws (c4 .before .loop-test .taken) (c4 .eat-ws2 .ensures) (c2 .before .looks2 .ensures) (c2 .if2 .taken) (c .before .three-dots .ensures) (c .expect-token .ensures))))),
+          (λ ws. params-dots (c6 .loop .left) (c6 .loop .c) (c6 .loop .n) ws (c4 .before .loop-test .taken) (c4 .eat-ws2 .ensures) (c2 .before .looks2 .ensures) (c2 .if2 .taken) (c .before .three-dots .ensures) (c .expect-token .ensures))))),
       omega arith,
     )
 
@@ -55,7 +54,7 @@ loop-again c =
     let c10 = c8 .before .before in
     let c12 = c10 .before .before in (
       go-on-paid 2 (c12 .loop .inv .0)
-          (λ ws. params-more (c12 .loop .left) (c12 .loop .n) _ (c10 .before .loop-test .taken) (c10 .eat-ws2 .ensures) (c8 .before .looks2 .ensures) (c8 .if2 .left) (c6 .parse-param .ensures) (c2 .before .count-child .ensures) (c .before .one-more .ensures) ws (c2 .comma-or .ensures) (c .if3 .taken)),
+          (λ ws. params-more (c12 .loop .left) (c12 .loop .c) (c12 .loop .n) _ _ (c10 .before .loop-test .taken) (c10 .eat-ws2 .ensures) (c8 .before .looks2 .ensures) (c8 .if2 .left) (c6 .parse-param .ensures) (c2 .before .count-child .ensures) (c .before .one-more .ensures) ws (c2 .comma-or .ensures) (c .if3 .taken)),
       c6 .parse-param .kept .1 .1 .0 ∙ c12 .loop .inv .1,
     )
 
@@ -77,7 +76,7 @@ returns-3 c =
           (byte-no _ _ (c14 .looks .ensures) (c12 .before .if1 .left)
           (call 2 (omega arith)
           (go-on-paid 2 (c12 .loop .inv .0)
-          (λ ws. params-end (c12 .loop .left) (c12 .loop .n) _ (c10 .before .loop-test .taken) (c10 .eat-ws2 .ensures) (c8 .before .looks2 .ensures) (c8 .if2 .left) (c6 .parse-param .ensures) (c2 .before .count-child .ensures) (c .before .one-more .ensures) ws (c2 .comma-or .ensures) (c .if3 .left))))),
+          (λ ws. params-end (c12 .loop .left) (c12 .loop .c) (c12 .loop .n) _ _ (c10 .before .loop-test .taken) (c10 .eat-ws2 .ensures) (c8 .before .looks2 .ensures) (c8 .if2 .left) (c6 .parse-param .ensures) (c2 .before .count-child .ensures) (c .before .one-more .ensures) ws (c2 .comma-or .ensures) (c .if3 .left))))),
       omega arith,
     )
 
@@ -93,7 +92,7 @@ returns-4 c =
           (byte-no _ _ (c4 .looks .ensures) (c2 .before .if1 .left)
           (call 2 (omega arith)
           (go-on-paid 2 (c2 .loop .inv .0)
-          (λ ws. dots-out (c2 .loop .left) 1 1 5 (c2 .loop .n) _ ws (c .before .loop-test .left) (c .refuse .ensures))))),
+          (λ ws. params-out (c2 .loop .left) (c2 .loop .c) (c2 .loop .n) ws (c .before .loop-test .left) (c .refuse .ensures))))),
       omega arith,
     )
 

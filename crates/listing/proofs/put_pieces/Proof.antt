@@ -3,6 +3,7 @@ use mathlib.Core.Path.{_≡_, refl, _∙_}
 use Prim.Native.Nat.{_+_, _-_, _*_}
 use native.Mathlib.Omega.{arith}
 use lib.ListN.{length, drop}
+use Rattle.records.specs.Limits.{entryWords}
 use Rattle.listing.specs.Stored.{stored, placed}
 use Rattle.listing.specs.Lines.{pieceLines}
 use Rattle.listing.proofs.Laws.{next-line, lines-over, lines-done, went-on}
@@ -11,7 +12,7 @@ use Rattle.listing.proofs.put_pieces.Statement.{statement}
 use Rattle.listing.proofs.put_pieces.Tie as tie
 
 abbrev Inv-loop : tie.InvT-loop
-Inv-loop out₀ at directory n k₀ i₀ out k i = (placed k (pieceLines i (n - i) (drop (i * 2) directory)) ≡ placed at (pieceLines 0 n directory)) × (stored k (pieceLines i (n - i) (drop (i * 2) directory)) out ≡ stored at (pieceLines 0 n directory) out₀) × (length out ≡ length out₀)
+Inv-loop out₀ at directory n k₀ i₀ out k i = (placed k (pieceLines i (n - i) (drop (i * entryWords) directory)) ≡ placed at (pieceLines 0 n directory)) × (stored k (pieceLines i (n - i) (drop (i * entryWords) directory)) out ≡ stored at (pieceLines 0 n directory) out₀) × (length out ≡ length out₀)
 
 abbrev μ-loop : tie.MeasureT-loop
 μ-loop out₀ at directory n k₀ i₀ out k i = n - i
@@ -34,7 +35,7 @@ loop-again c =
     let c8 = c6 .before .before in
     let c11 = c8 .before .before .before in
     let e = next-line (c11 .args .directory .now) (c8 .loop .i) (c11 .args .n) (c6 .before .loop-test .taken) (omega (arith, c6 .if1 .left)) in
-    let w = went-on (pieceLines (c8 .loop .i + 1) (c11 .args .n - (c8 .loop .i + 1)) (drop ((c8 .loop .i + 1) * 2) (c11 .args .directory .now))) (c2 .put-piece .ensures) (rw e at (c8 .loop .inv .0)) (rw e at (c8 .loop .inv .1)) in
+    let w = went-on (pieceLines (c8 .loop .i + 1) (c11 .args .n - (c8 .loop .i + 1)) (drop ((c8 .loop .i + 1) * entryWords) (c11 .args .directory .now))) (c2 .put-piece .ensures) (rw e at (c8 .loop .inv .0)) (rw e at (c8 .loop .inv .1)) in
     (w .0, w .1, c2 .put-piece .kept .0 ∙ c8 .loop .inv .2)
 
 returns-2 : tie.Need-returns-2 Inv-loop μ-loop

@@ -3,6 +3,7 @@ use mathlib.Core.Path.{_≡_, sym, _∙_}
 use Prim.Native.Nat.{_+_, _-_, _*_}
 use native.Mathlib.Omega.{arith}
 use lib.ListN.{drop}
+use Rattle.records.specs.Limits.{entryWords}
 use Rattle.listing.specs.Lines.{wordsEnd}
 use Rattle.listing.proofs.Laws.{next-end, end-over, end-done}
 use borrow.Author.Needs.{needs}
@@ -10,7 +11,7 @@ use Rattle.listing.proofs.words_end.Statement.{statement}
 use Rattle.listing.proofs.words_end.Tie as tie
 
 abbrev Inv-loop : tie.InvT-loop
-Inv-loop directory n end₀ i₀ end i = wordsEnd end (n - i) (drop (i * 2) directory) ≡ wordsEnd 0 n directory
+Inv-loop directory n end₀ i₀ end i = wordsEnd end (n - i) (drop (i * entryWords) directory) ≡ wordsEnd 0 n directory
 
 abbrev μ-loop : tie.MeasureT-loop
 μ-loop directory n end₀ i₀ end i = n - i
@@ -24,7 +25,7 @@ returns c =
     sym (end-over (c2 .before .args .directory .now) (c2 .loop .end) (c2 .loop .i) (c2 .before .args .n) (c .if1 .taken)) ∙ c2 .loop .inv
 
 add-end : tie.Need-add-end Inv-loop μ-loop
-add-end c = omega (arith, c .shared-slice-known .given (c .before .before .before .loop .i * 2 + 1))
+add-end c = omega (arith, c .shared-slice-known .given (c .before .before .before .loop .i * entryWords + 1))
 
 loop-again : tie.Need-loop-again Inv-loop μ-loop
 loop-again c =

@@ -1,7 +1,7 @@
--- The invariant: question 22 of all entries is what it says of those from i on; each test is one of its four.
+-- The invariant: question 22 of all entries is what it says of those from i on; each test is one of its five.
 use Prim.Native.Nat.{_-_}
 use native.Mathlib.Omega.{arith}
-use Rattle.older.proofs.Chain.{Asks, asks-none, asks-short, asks-first, asks-next, asks-done, start-differs, first-differs, text-ends, words-end}
+use Rattle.older.proofs.Chain.{Asks, asks-none, asks-short, asks-first, asks-next, asks-done, start-differs, first-differs, text-ends, words-end, counter-high}
 use borrow.Author.Needs.{needs}
 use Rattle.older.proofs.chained.Statement.{statement}
 use Rattle.older.proofs.chained.Tie as tie
@@ -53,16 +53,23 @@ returns-6 c =
     let c10 = c7 .before .before .before in
     words-end (c10 .args .text-len) (c10 .args .older .words) (c10 .args .older .entries) (c10 .args .directory .now) (c7 .loop .i) (c7 .loop .pos) (c7 .loop .word) (c7 .loop .inv) (c6 .loop-test .taken) (omega arith)
 
-loop-again : tie.Need-loop-again Inv-loop μ-loop
-loop-again c =
-    let c2 = c .before .before in
-    let c6 = c2 .before .before .before .before in
-    let c7 = c6 .before in
-    let c10 = c7 .before .before .before in
-    asks-next (c10 .args .text-len) (c10 .args .older .words) (c10 .args .older .entries) (c10 .args .directory .now) (c7 .loop .i) (c7 .loop .pos) (c7 .loop .word) (c7 .loop .inv) (c6 .loop-test .taken) (c2 .before .if3 .left) (c2 .if4 .left) (omega arith) (omega arith)
-
 returns-7 : tie.Need-returns-7 Inv-loop μ-loop
 returns-7 c =
+    let c8 = c .before .before .before .before .before .before .before .before in
+    let c9 = c8 .before in
+    let c12 = c9 .before .before .before in
+    counter-high (c12 .args .text-len) (c12 .args .older .words) (c12 .args .older .entries) (c12 .args .directory .now) (c9 .loop .i) (c9 .loop .pos) (c9 .loop .word) (c9 .loop .inv) (c8 .loop-test .taken) (c .if7 .taken)
+
+loop-again : tie.Need-loop-again Inv-loop μ-loop
+loop-again c =
+    let c4 = c .before .before .before .before in
+    let c8 = c4 .before .before .before .before in
+    let c9 = c8 .before in
+    let c12 = c9 .before .before .before in
+    asks-next (c12 .args .text-len) (c12 .args .older .words) (c12 .args .older .entries) (c12 .args .directory .now) (c9 .loop .i) (c9 .loop .pos) (c9 .loop .word) (c9 .loop .inv) (c8 .loop-test .taken) (c4 .before .if3 .left) (c4 .if4 .left) (omega arith) (omega arith) (c .if7 .left)
+
+returns-8 : tie.Need-returns-8 Inv-loop μ-loop
+returns-8 c =
     let c1 = c .before in
     let c4 = c1 .before .before .before in
     asks-done (c4 .args .text-len) (c4 .args .older .words) (c4 .args .older .entries) (c4 .args .directory .now) (c1 .loop .i) (c1 .loop .pos) (c1 .loop .word) (c .loop-test .left) (c1 .loop .inv)
@@ -76,13 +83,15 @@ chained-spec =
     returns
     returns-2
     loop-holds
-    (λ c. search needs) (λ c. search needs) (λ c. search needs) (λ c. search needs) (λ c. search needs) (λ c. search needs) (λ c. search needs)
+    (λ c. search needs) (λ c. search needs) (λ c. search needs) (λ c. search needs) (λ c. search needs) (λ c. search needs)
     returns-3
     returns-4
     (λ c. search needs)
     returns-5
     (λ c. search needs)
     returns-6
+    (λ c. search needs) (λ c. search needs) (λ c. search needs)
+    returns-7
     (λ c. search needs) (λ c. search needs) (λ c. search needs) (λ c. search needs)
     loop-again
-    returns-7)
+    returns-8)

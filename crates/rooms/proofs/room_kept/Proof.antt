@@ -3,6 +3,7 @@ use mathlib.Core.Path.{refl, sym, _∙_}
 use Prim.Native.Nat.{_+_, _-_, _*_, _%_}
 use native.Mathlib.Omega.{arith}
 use lib.ListN.{length, drop, getD}
+use Rattle.records.specs.Limits.{entryWords}
 use Rattle.records.specs.Pieces.{judge}
 use Rattle.directory.specs.Olds.{oldsOf}
 use Rattle.rooms.proofs.Judge.{sizesOf, fitting, Judging, judging-end, judging-words, judging-entry, judging-next, place-small}
@@ -19,8 +20,8 @@ abbrev μ-loop : tie.MeasureT-loop
 loop-holds : tie.Need-loop-holds Inv-loop μ-loop
 loop-holds c = record { small = c .before .pre .1; same = refl }
 
-add-t24 : tie.Need-add-t24 Inv-loop μ-loop
-add-t24 c =
+add-t23 : tie.Need-add-t23 Inv-loop μ-loop
+add-t23 c =
     let c5 = c .before .before .before .before .before in
     let c6 = c5 .before in
     let c8 = c6 .before .before in
@@ -61,7 +62,7 @@ add-number c =
     let c2 = c .before .before in
     let c6 = c2 .before .before .before .before in
     let c8 = c6 .before .before in
-    let f = fitting (c8 .args .older .words) (length (c8 .args .directory .now)) (c6 .loop .number) (c6 .loop .word) (getD (c8 .args .directory .now) (c6 .loop .k * 2 + 1) 0 % 4294967296) (sym (c2 .room-for .ensures) ∙ c .enum-told3 .given .1) in omega (arith, f .entry)
+    let f = fitting (c8 .args .older .words) (length (c8 .args .directory .now)) (c6 .loop .number) (c6 .loop .word) (getD (c8 .args .directory .now) (c6 .loop .k * entryWords + 1) 0 % 4294967296) (sym (c2 .room-for .ensures) ∙ c .enum-told3 .given .1) in omega (arith, f .entry)
 
 add-pos : tie.Need-add-pos Inv-loop μ-loop
 add-pos c =
@@ -81,7 +82,7 @@ add-word c =
     let c2 = c .before .before in
     let c6 = c2 .before .before .before .before in
     let c8 = c6 .before .before in
-    let f = fitting (c8 .args .older .words) (length (c8 .args .directory .now)) (c6 .loop .number) (c6 .loop .word) (getD (c8 .args .directory .now) (c6 .loop .k * 2 + 1) 0 % 4294967296) (sym (c2 .room-for .ensures) ∙ c .enum-told3 .given .1) in omega (arith, f .small)
+    let f = fitting (c8 .args .older .words) (length (c8 .args .directory .now)) (c6 .loop .number) (c6 .loop .word) (getD (c8 .args .directory .now) (c6 .loop .k * entryWords + 1) 0 % 4294967296) (sym (c2 .room-for .ensures) ∙ c .enum-told3 .given .1) in omega (arith, f .small)
 
 loop-again : tie.Need-loop-again Inv-loop μ-loop
 loop-again c =
@@ -112,8 +113,8 @@ room-kept-spec =
     μ-loop
     loop-holds
     (λ c. search needs) (λ c. search needs) (λ c. search needs) (λ c. search needs) (λ c. search needs) (λ c. search needs) (λ c. search needs)
-    (λ c. search needs) (λ c. search needs)
-    add-t24
+    (λ c. search needs)
+    add-t23
     returns
     (λ c. search needs) (λ c. search needs)
     returns-2

@@ -5,7 +5,7 @@ use native.Mathlib.Omega.{arith}
 use lib.ListN.{length}
 use Rattle.texts.specs.Texts.{Ends}
 use Rattle.texts.proofs.Compare.{ends-more, older-out, newer-out, ends-differ, end-is}
-use Rattle.theorem_edits.specs.Law.{common-le-older, common-le-newer}
+use Rattle.theorem_refusals.specs.Common.{common-le-older, common-le-newer}
 use borrow.Author.Needs.{needs}
 use Rattle.texts.proofs.common_end.Statement.{statement}
 use Rattle.texts.proofs.common_end.Tie as tie

@@ -1,10 +1,12 @@
 //! Throughput beside the Rust, in one run, as ratios; growth from 1 KB to 16 MB; re-reading after
-//! a one-digit edit. `bench` takes the static library, `bench --model` the model.
+//! a one-digit edit, and after one that moves every number (M-106). `bench` takes the static library,
+//! `bench --model` the model.
 //!
 //! Arrays are lent at the exact fit and not cleared first: clearing is the reader's own work.
 
 use beside::big;
 use beside::port::{Model, Port};
+use judge::walk::ENTRY_WORDS;
 use judge::{files, left_out};
 use std::hint::black_box;
 use std::process::ExitCode;
@@ -118,7 +120,7 @@ fn edit(port: &dyn Port, functions: &[Vec<u8>]) -> String {
     newer[at] = if newer[at] == b'7' { b'8' } else { b'7' };
     let mut job = Job::new(&older).expect("accepted");
     let full = best(|| assert!(job.read(port) >= 2));
-    let entries = job.directory.len() as u64 / 2;
+    let entries = (job.directory.len() / ENTRY_WORDS) as u64;
     let mut turn = false;
     let again = best(|| {
         let (a, b) = if turn { (&newer, &older) } else { (&older, &newer) };
@@ -141,6 +143,41 @@ fn edit(port: &dyn Port, functions: &[Vec<u8>]) -> String {
     )
 }
 
+/// A numbered call put into the first block, and taken out again: no other text changes, but every piece
+/// behind begins with another counter, so that reading goes on to the end (M-106). Beside a full reading
+/// of the newer text; and the same with a numbered label behind the first block, which catches up.
+fn shift(port: &dyn Port, functions: &[Vec<u8>]) -> String {
+    let mut out = String::new();
+    for catches_up in [false, true] {
+        let text = big::unlabelled(functions, 4 << 20);
+        let first = text.windows(3).position(|w| w == b"{\n ").expect("a block") + 2;
+        let put = |call: &[u8]| {
+            let label: &[u8] = if catches_up { b"  ret i32 %0\n9:\n" } else { b"" };
+            [&text[..first], call, label, &text[first..]].concat()
+        };
+        let (older, newer) = (put(b""), put(b"  call i32 @g()\n"));
+        let mut job = Job::new(&newer).expect("accepted");
+        let full = best(|| assert!(job.read(port) >= 2));
+        let entries = (job.directory.len() / ENTRY_WORDS) as u64;
+        let wanted = if catches_up { 2 } else { entries - 1 };
+        let mut turn = false;
+        let again = best(|| {
+            let (a, b) = if turn { (&older, &newer) } else { (&newer, &older) };
+            turn = !turn;
+            let r = port.reparse_define(a, b, &mut job.words, &mut job.directory, entries);
+            assert!(r.number == 0 && r.read == wanted, "{r:?}");
+        });
+        let (ms, many) = (again.as_secs_f64() * 1e3, again.as_secs_f64() / full.as_secs_f64());
+        let how = if catches_up { "up to the label that catches up" } else { "to the end" };
+        out.push_str(&format!(
+            "A numbered call put in before {} bytes: re-reading {wanted} pieces, {how}, takes {ms:.3} ms, {many:.3} \
+             times a full reading.\n",
+            older.len(),
+        ));
+    }
+    out
+}
+
 fn run(port: &dyn Port) -> Result<bool, String> {
     // Without those of clang 22: the Rust refuses most of them at their first attribute. Without
     // `atomicrmw`, which is never compared with the Rust.
@@ -154,6 +191,7 @@ fn run(port: &dyn Port) -> Result<bool, String> {
     out.push_str(&growth(port, &functions));
     if port.rereads() {
         out.push_str(&edit(port, &functions));
+        out.push_str(&shift(port, &functions));
     }
     files::print(&out)?;
     Ok(true)

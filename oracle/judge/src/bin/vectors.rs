@@ -1,10 +1,10 @@
 //! Holds lists of vectors (`TEXT A ENTRIES WORDS DIRECTORY` or `TEXT R NUMBER PLACE`) against the
-//! Rust and reports each line on which it disagrees, and how many lines are left out (M-100): those
-//! are judged by `model --vectors` alone.
+//! Rust and reports each line on which it disagrees, and how many lines are left out: for M-100, which
+//! `model --vectors` judges alone, and for 26 (M-106), where the Rust with 26 put in is asked.
 
 use judge::answer::on_big_stack;
 use judge::vector::{self, Expected, Vector};
-use judge::{canonical_from_tree, canonical_from_words, files, judge, left_out, Answer};
+use judge::{canonical_from_tree, canonical_from_words, files, judge, left_out, misnumbered, Answer};
 use std::process::ExitCode;
 
 /// What the Rust says otherwise, if it does.
@@ -29,14 +29,17 @@ fn disagreement(v: &Vector) -> Option<String> {
 fn check(path: &str) -> Result<bool, String> {
     let list = files::lines(path, vector::parse)?;
     let total = list.len();
-    let (found, left): (Vec<(usize, String)>, usize) = on_big_stack(move || {
+    let (found, left, misnumbered): (Vec<(usize, String)>, usize, usize) = on_big_stack(move || {
         let numbered = list.iter().enumerate();
         let found = numbered.filter_map(|(i, v)| disagreement(v).map(|why| (i + 1, why))).collect();
-        (found, list.iter().filter(|v| left_out(&v.text)).count())
+        let many = |such: fn(&[u8]) -> bool| list.iter().filter(|v| such(&v.text)).count();
+        (found, many(left_out), many(misnumbered))
     });
     let mut out: String = found.iter().map(|(i, why)| format!("vector {i}: the Rust: {why}\n")).collect();
     let wrong = found.len();
-    out.push_str(&format!("{path}: {total} vectors, {wrong} disagreements, {left} left out for atomicrmw\n"));
+    out.push_str(&format!(
+        "{path}: {total} vectors, {wrong} disagreements, {left} left out for atomicrmw, {misnumbered} for 26\n"
+    ));
     files::print(&out)?;
     Ok(found.is_empty())
 }

@@ -20,7 +20,7 @@ use texts::Texts;
 const LONGEST: usize = 100;
 const MOST_WORDS: usize = 60;
 /// What the fixed calls are lent beyond the exact fit of the older text.
-const ROOMS: [(usize, usize); 2] = [(20, 4), (0, 0)];
+const ROOMS: [(usize, usize); 2] = [(20, 6), (0, 0)];
 
 fn hex(bytes: &[u8]) -> String {
     if bytes.is_empty() {

@@ -39,19 +39,23 @@ fn number(a: &str) -> Result<u64, String> {
 
 /// Holds the model against the Rust on these texts.
 fn compare(name: &str, texts: impl Iterator<Item = Vec<u8>> + Send + 'static) -> Result<bool, String> {
-    let (total, left, wrong) = on_big_stack(move || {
-        let (mut total, mut left, mut wrong) = (0u64, 0u64, 0u64);
+    let (total, left, misnumbered, wrong) = on_big_stack(move || {
+        let (mut total, mut left, mut misnumbered, mut wrong) = (0u64, 0u64, 0u64, 0u64);
         for text in texts {
             total += 1;
-            left += u64::from(left_out(&text));
+            let left_out = left_out(&text);
+            left += u64::from(left_out);
+            misnumbered += u64::from(!left_out && beside::misnumbered(&text));
             if let Some(why) = beside::difference(&text) {
                 wrong += 1;
                 println!("{}\n   text {:?}\n  {why}", hex::encode(&text), String::from_utf8_lossy(&text));
             }
         }
-        (total, left, wrong)
+        (total, left, misnumbered, wrong)
     });
-    println!("{total} texts {name}, {left} left out for atomicrmw, {wrong} on which model and Rust differ");
+    println!(
+        "{total} texts {name}, {left} left out for atomicrmw, {misnumbered} for 26, {wrong} on which model and Rust differ"
+    );
     Ok(wrong == 0)
 }
 

@@ -49,7 +49,7 @@ impl Sample {
 
     /// What the list must show: every number that a text alone can meet, every kind and detail.
     fn missing(&self) -> Option<String> {
-        let number = (2..=18).find(|n| !self.numbers.contains(n)).map(|n| format!("number {n}"));
+        let number = (2..=18).chain([26]).find(|n| !self.numbers.contains(n)).map(|n| format!("number {n}"));
         let header = wanted().into_iter().find(|h| !self.headers.contains(h));
         number.or(header.map(|h| format!("kind {} with detail {}", h >> 8, h & 255)))
     }

@@ -1,4 +1,4 @@
--- The invariant: k entries are moved, and pos and word are where the next starts; sums stay below 2^32 as the last does.
+-- The invariant: k entries are moved, and pos and word are where the next starts; sums stay below 2^32 as the last does; the counters stay.
 use mathlib.Core.Path.{_≡_}
 use Prim.Native.Nat.{_-_}
 use native.Mathlib.Omega.{arith}
@@ -18,43 +18,43 @@ loop-holds c = renumber-first (c .before .args .directory .now) (c .before .args
 
 put-entry-requires : tie.Need-put-entry-requires Inv-loop μ-loop
 put-entry-requires c κs =
-    let c4 = c .before .before .before .before in
-    let c5 = c4 .before in
-    let c7 = c5 .before .before in (
-      omega (arith, c5 .loop .inv .long),
+    let c5 = c .before .before .before .before .before in
+    let c6 = c5 .before in
+    let c8 = c6 .before .before in (
+      omega (arith, c6 .loop .inv .long),
       (
         omega
-            (arith, place-ends (c7 .args .directory .now) (c7 .args .spot .number) (c7 .args .n) (c7 .args .spot .pos) (c7 .args .spot .word) (c7 .pre .0) (c5 .loop .k) (c5 .loop .pos) (c5 .loop .word) (c5 .loop .directory) (c5 .loop .inv) (c4 .loop-test .taken)),
+            (arith, place-ends (c8 .args .directory .now) (c8 .args .spot .number) (c8 .args .n) (c8 .args .spot .pos) (c8 .args .spot .word) (c8 .pre .0) (c6 .loop .k) (c6 .loop .pos) (c6 .loop .word) (c6 .loop .directory) (c6 .loop .inv) (c5 .loop-test .taken)),
         omega arith,
         omega
-            (arith, first-ends (c7 .args .directory .now) (c7 .args .spot .number) (c7 .args .n) (c7 .args .spot .pos) (c7 .args .spot .word) (c7 .pre .0) (c5 .loop .k) (c5 .loop .pos) (c5 .loop .word) (c5 .loop .directory) (c5 .loop .inv) (c4 .loop-test .taken)),
+            (arith, first-ends (c8 .args .directory .now) (c8 .args .spot .number) (c8 .args .n) (c8 .args .spot .pos) (c8 .args .spot .word) (c8 .pre .0) (c6 .loop .k) (c6 .loop .pos) (c6 .loop .word) (c6 .loop .directory) (c6 .loop .inv) (c5 .loop-test .taken)),
         omega arith,
       ),
     )
 
 add-pos : tie.Need-add-pos Inv-loop μ-loop
 add-pos c =
-    let c7 = c .before .before .before .before .before .before .before in
-    let c8 = c7 .before in
-    let c10 = c8 .before .before in
+    let c8 = c .before .before .before .before .before .before .before .before in
+    let c9 = c8 .before in
+    let c11 = c9 .before .before in
     omega
-    (arith, place-ends (c10 .args .directory .now) (c10 .args .spot .number) (c10 .args .n) (c10 .args .spot .pos) (c10 .args .spot .word) (c10 .pre .0) (c8 .loop .k) (c8 .loop .pos) (c8 .loop .word) (c8 .loop .directory) (c8 .loop .inv) (c7 .loop-test .taken))
+    (arith, place-ends (c11 .args .directory .now) (c11 .args .spot .number) (c11 .args .n) (c11 .args .spot .pos) (c11 .args .spot .word) (c11 .pre .0) (c9 .loop .k) (c9 .loop .pos) (c9 .loop .word) (c9 .loop .directory) (c9 .loop .inv) (c8 .loop-test .taken))
 
 add-word : tie.Need-add-word Inv-loop μ-loop
 add-word c =
-    let c7 = c .before .before .before .before .before .before .before in
-    let c8 = c7 .before in
-    let c10 = c8 .before .before in
+    let c8 = c .before .before .before .before .before .before .before .before in
+    let c9 = c8 .before in
+    let c11 = c9 .before .before in
     omega
-    (arith, first-ends (c10 .args .directory .now) (c10 .args .spot .number) (c10 .args .n) (c10 .args .spot .pos) (c10 .args .spot .word) (c10 .pre .0) (c8 .loop .k) (c8 .loop .pos) (c8 .loop .word) (c8 .loop .directory) (c8 .loop .inv) (c7 .loop-test .taken))
+    (arith, first-ends (c11 .args .directory .now) (c11 .args .spot .number) (c11 .args .n) (c11 .args .spot .pos) (c11 .args .spot .word) (c11 .pre .0) (c9 .loop .k) (c9 .loop .pos) (c9 .loop .word) (c9 .loop .directory) (c9 .loop .inv) (c8 .loop-test .taken))
 
 loop-again : tie.Need-loop-again Inv-loop μ-loop
 loop-again c =
     let c2 = c .before .before in
-    let c7 = c2 .before .before .before .before .before in
-    let c8 = c7 .before in
-    let c10 = c8 .before .before in
-    renumber-next (c10 .args .directory .now) (c10 .args .spot .number) (c10 .args .n) (c10 .args .spot .pos) (c10 .args .spot .word) (c10 .pre .0) (c8 .loop .k) (c8 .loop .pos) (c8 .loop .word) (c8 .loop .directory) (c8 .loop .inv) (c7 .loop-test .taken) (c2 .put-entry .last .0) (c2 .put-entry .ensures)
+    let c8 = c2 .before .before .before .before .before .before in
+    let c9 = c8 .before in
+    let c11 = c9 .before .before in
+    renumber-next (c11 .args .directory .now) (c11 .args .spot .number) (c11 .args .n) (c11 .args .spot .pos) (c11 .args .spot .word) (c11 .pre .0) (c9 .loop .k) (c9 .loop .pos) (c9 .loop .word) (c9 .loop .directory) (c9 .loop .inv) (c8 .loop-test .taken) (c2 .put-entry .last .0) (c2 .put-entry .ensures)
 
 same-length : tie.Need-same-length Inv-loop μ-loop
 same-length c = c .before .loop .inv .long
@@ -70,7 +70,7 @@ renumber-spec =
     μ-loop
     loop-holds
     (λ c. search needs) (λ c. search needs) (λ c. search needs) (λ c. search needs) (λ c. search needs) (λ c. search needs) (λ c. search needs)
-    (λ c. search needs)
+    (λ c. search needs) (λ c. search needs) (λ c. search needs)
     put-entry-requires
     add-pos
     add-word
