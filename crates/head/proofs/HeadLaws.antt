@@ -32,7 +32,7 @@ use Rattle.writer.proofs.Laws.{at-close}
 use Rattle.names.proofs.Passed.{passes-any, passes-refuse, passes-byte, passes-then}
 use Rattle.lexer.proofs.Children.{nest, g-room, in-room}
 use Rattle.types.specs.Reading.{TypeEnds, read, back, none, typed}
-use Rattle.types.proofs.TypeLaws.{Stuck, space-run, byte-run-no, fail-run, attrs-run, stuck-comma}
+use Rattle.types.proofs.TypeLaws.{Stuck, space-run, byte-run-no, fail-run, attrs-run, stuck-comma, stuck-room}
 use Rattle.directory.specs.Piece.{HeadIs, is-head, no-head}
 use Rattle.head.specs.Reading.{params, ParamEnds, read as has, back as stops, none as bad-one, parameter, Shut, shut, bad, shuts}
 use Rattle.closing.specs.Pieces.{pieceOf}
@@ -159,18 +159,10 @@ param-then {B} {f} q x d h {c} {mid} {E} {text} {p0} {p} {p1} {p′} {w} {w1} {w
     go b low k a t (stops {ws = ws} {cur = cur} i o) = subst (λ (z : Res B). E .ends b k low z p′ w′) (st ws (cur .at) (drop (cur .at) text) o) (t ws .runs b low k cur refl (at-whole a i))
     go b low k a t (bad-one {e = e} {x = y}) = rw (t [] .hands e y refl) (E .outs b k low e y w′)
 
-stuck-room-as : {A B : Type 0} (n q : ℕ) (mk : List ℕ → A) (h : A → Prog B) → Stuck q (λ t. h (mk t)) → Stuck (behind n q) (λ t. room n (mk t) >>= h)
-unfolding behind room refuse run _>>=_
-stuck-room-as {A} {B} n q mk h st t i s e = go (ltb n 65535)
-  where
-    go : (b : Bool) → run {A = B} (elim b [ true ↦ ret (mk t) | false ↦ refuse 19 ] >>= h) i s ≡ no-at (pick b q 19) i
-    go true = st t i s e
-    go false = refl
-
 -- as a child, then the rest
 param-child : {B : Type 0} (n m x : ℕ) (h : Counted (List ℕ) → Prog B) {mid : List ℕ} {E : Goal B} {text : List ℕ} {p0 p p1 q1 p′ : Parsed} {w w1 w′ : List ℕ} → ((e : ℕ) → Leads (parseParam e m) 2 [] (parameter e x text p) text p p w p1 w1) → q1 ≡ countedP n p1 → Stuck 3 (λ t. h (counted x t)) → ((e i : ℕ) → q1 ≡ Refused e i → p′ ≡ Refused e i) → ((ws : List ℕ) → n < 65535 → Leads (h (counted x ws)) 0 (mid ++ ws) E text p0 q1 w1 p′ w′) → Leads (child n (parseParam (behind n 3) m) >>= h) 2 mid E text p0 p w p′ w′
 unfolding child
-param-child n m x h {p1 = p1} r o st hd s = nest (parseParam (behind n 3) m) (room n) h (param-then (behind n 3) x 2 _ {c = 0} (r (behind n 3)) (stuck-room-as n 3 (counted x) h st) (λ t. val _ (g-room n o) (in-room n p1 o hd (s t))))
+param-child n m x h {p1 = p1} r o st hd s = nest (parseParam (behind n 3) m) (room n) h (param-then (behind n 3) x 2 _ {c = 0} (r (behind n 3)) (stuck-room n 3 (counted x) h st) (λ t. val _ (g-room n o) (in-room n p1 o hd (s t))))
 
 -- ---- a comma or the closing byte, whatever follows is
 -- One of three, and the same one for all that may follow.

@@ -133,17 +133,17 @@ unfolding commaOr tokenIf
 stuck-comma end x y ne t i s e = space-run (λ _. byteIf 44 (x t) (byteIf end (y t) (refuse 3))) i s e ∙ byte-run-no 44 (x t) (byteIf end (y t) (refuse 3)) i s (λ z. omega arith) e ∙ byte-run-no end (y t) (refuse 3) i s ne e ∙ fail-run 3 i s
 
 -- ---- a type as a child of a list, then the rest
-pub stuck-room : {B : Type 0} (n q : ℕ) (h : List ℕ → Prog B) → Stuck q h → Stuck (behind n q) (λ t. room n t >>= h)
+pub stuck-room : {A B : Type 0} (n q : ℕ) (mk : List ℕ → A) (h : A → Prog B) → Stuck q (λ t. h (mk t)) → Stuck (behind n q) (λ t. room n (mk t) >>= h)
 unfolding behind room refuse run _>>=_
-stuck-room {B} n q h st t i s e = go (ltb n 65535)
+stuck-room {A} {B} n q mk h st t i s e = go (ltb n 65535)
   where
-    go : (b : Bool) → run {A = B} (elim b [ true ↦ ret t | false ↦ refuse 19 ] >>= h) i s ≡ no-at (pick b q 19) i
+    go : (b : Bool) → run {A = B} (elim b [ true ↦ ret (mk t) | false ↦ refuse 19 ] >>= h) i s ≡ no-at (pick b q 19) i
     go true = st t i s e
     go false = refl
 
 pub type-child : {B : Type 0} {f : Prog TypeOut} {g : Prog Listed} (n q : ℕ) (h : List ℕ → Prog B) {c : ℕ} {mid : List ℕ} {E : Goal B} {text : List ℕ} {p0 p p1 q1 p′ : Parsed} {w w1 w′ : List ℕ} → Leads f 0 [] (typed g text p) text p p w p1 w1 → q1 ≡ countedP n p1 → Stuck q h → ((e i : ℕ) → q1 ≡ Refused e i → p′ ≡ Refused e i) → ((ws : List ℕ) → n < 65535 → Leads (h ws) c (mid ++ ws) E text p0 q1 w1 p′ w′) → Leads (typeChild n q f >>= h) c mid E text p0 p w p′ w′
 unfolding typeChild child
-type-child n q h {p1 = p1} r x st hd s = nest _ _ h (type-then (behind n q) _ r (stuck-room n q h st) (λ t. val _ (g-room n x) (in-room n p1 x hd (s t))))
+type-child n q h {p1 = p1} r x st hd s = nest _ _ h (type-then (behind n q) _ r (stuck-room n q same h st) (λ t. val _ (g-room n x) (in-room n p1 x hd (s t))))
 
 -- ---- lists behind commas
 -- behind an element

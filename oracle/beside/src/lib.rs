@@ -14,3 +14,15 @@ pub mod shrink;
 
 #[cfg(zimlokur)]
 pub mod linked;
+
+/// The static library, if it was named when this was built.
+#[cfg(zimlokur)]
+pub fn library() -> Result<&'static dyn port::Port, String> {
+    Ok(&linked::Library)
+}
+
+#[cfg(not(zimlokur))]
+pub fn library() -> Result<&'static dyn port::Port, String> {
+    Err("built without the library: set ZIMLOKUR_LIB to the whole path of libzimlokur.a and build again"
+        .to_string())
+}

@@ -4,8 +4,8 @@
 //!
 //! Arrays are lent at the exact fit and not cleared first: clearing is the reader's own work.
 
-use beside::big;
 use beside::port::{Model, Port};
+use beside::{big, library};
 use judge::walk::ENTRY_WORDS;
 use judge::{files, left_out};
 use std::hint::black_box;
@@ -195,17 +195,6 @@ fn run(port: &dyn Port) -> Result<bool, String> {
     }
     files::print(&out)?;
     Ok(true)
-}
-
-#[cfg(zimlokur)]
-fn library() -> Result<&'static dyn Port, String> {
-    Ok(&beside::linked::Library)
-}
-
-#[cfg(not(zimlokur))]
-fn library() -> Result<&'static dyn Port, String> {
-    Err("built without the library: set ZIMLOKUR_LIB to the whole path of libzimlokur.a and build again"
-        .to_string())
 }
 
 fn main() -> ExitCode {

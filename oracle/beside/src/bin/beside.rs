@@ -8,7 +8,7 @@
 use beside::afternoon::{self, Calls};
 use beside::port::{Model, Port};
 use beside::shrink::shrink;
-use beside::{big, check, long, reread, rooms};
+use beside::{big, check, library, long, reread, rooms};
 use judge::{files, hex, left_out, reads_on};
 use model::fold;
 use std::collections::BTreeMap;
@@ -537,17 +537,6 @@ fn run(work: Vec<Work>) -> Result<bool, String> {
     }
     files::print(&report.show())?;
     Ok(report.wrong.is_empty())
-}
-
-#[cfg(zimlokur)]
-fn library() -> Result<&'static dyn Port, String> {
-    Ok(&beside::linked::Library)
-}
-
-#[cfg(not(zimlokur))]
-fn library() -> Result<&'static dyn Port, String> {
-    Err("built without the library: set ZIMLOKUR_LIB to the whole path of libzimlokur.a and build again"
-        .to_string())
 }
 
 fn start(args: &[&str]) -> Result<bool, String> {

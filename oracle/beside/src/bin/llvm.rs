@@ -2,9 +2,9 @@
 //! the model. LLVM is the program that LLVM_AS names, or `llvm-as-19`. Each function must be read by both, or refused by
 //! both at the same line; first the known differences are looked at.
 
-use beside::check;
 use beside::llvm::{asks, function, KNOWN};
 use beside::port::{Model, Parsed, Port};
+use beside::{check, library};
 use judge::files;
 use std::collections::BTreeMap;
 use std::process::ExitCode;
@@ -61,17 +61,6 @@ fn compare(port: &dyn Port, program: &str, seed: u64, count: u64) -> Result<bool
     ));
     files::print(&out)?;
     Ok(wrong.is_empty())
-}
-
-#[cfg(zimlokur)]
-fn library() -> Result<&'static dyn Port, String> {
-    Ok(&beside::linked::Library)
-}
-
-#[cfg(not(zimlokur))]
-fn library() -> Result<&'static dyn Port, String> {
-    Err("built without the library: set ZIMLOKUR_LIB to the whole path of libzimlokur.a and build again"
-        .to_string())
 }
 
 fn start(args: &[&str]) -> Result<bool, String> {
