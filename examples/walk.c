@@ -1,6 +1,7 @@
 /* Prints the nodes of a cue as an indented tree, as a preview screen would show them, piece by piece. Standard input has a function's text
  * from behind the word `define`. A line is a node: its kind, its detail in words, its names as they stand in the text, its numbers.
- * The words are not believed: whatever they hold, nothing outside the arrays and the text is looked at, and what does not fit is said.
+ * From node to node it goes by the library's steps, and names are what the library finds in the piece. The words are not believed: whatever
+ * they hold, nothing outside the arrays and the text is looked at, and what does not fit is said.
  * Exits 0 if the tree is whole, 1 if it is not or the cue is refused, 2 without a cue.
  * cc -Iinclude examples/walk.c target/staticlib/libzimlokur.a -o target/walk */
 #include "common.h"
@@ -15,8 +16,15 @@ static uint8_t input[MOST_BYTES + 1];
 static uint64_t words[WORDS];
 static uint64_t directory[DIRECTORY_WORDS];
 
-/* Words that are left to read, in a piece or in one node. */
-struct span {
+/* The words of a piece, and the place in them where a node begins. */
+struct handle {
+  const uint64_t *words;
+  size_t length;
+  uint64_t at;
+};
+
+/* The words between a node's header and its children. */
+struct payload {
   const uint64_t *words;
   size_t length;
 };
@@ -25,6 +33,14 @@ struct span {
 struct header {
   unsigned kind, detail;
   size_t children, size;
+};
+
+/* A node that fits: where it ends, and a handle at its first child; without a child that one is of no use. */
+struct node {
+  struct header header;
+  struct payload payload;
+  struct handle child;
+  uint64_t end;
 };
 
 /* What is being printed: the text of the piece, which its names count from, the counter at its start, and what did not fit so far. */
@@ -43,6 +59,13 @@ struct ranks {
 static struct header header_of(uint64_t word) {
   struct header header = {(unsigned)(word >> 56), (unsigned)(word >> 48 & 0xFF), (size_t)(word >> 32 & 0xFFFF), (size_t)lower(word)};
   return header;
+}
+
+/* Steps: whether there is one. If not, the handle stays where it is. */
+static int to_child(struct handle *handle) { return zimlokur_child(handle->words, handle->length, handle->at, &handle->at) != 0; }
+
+static int to_next(struct handle *handle, uint64_t end) {
+  return zimlokur_next(handle->words, handle->length, handle->at, end, &handle->at) != 0;
 }
 
 /* The name of a kind in the header file, in small letters; NULL for a number that is none. */
@@ -212,9 +235,9 @@ static void show_detail(struct walk *walk, struct header header) {
 
 /* A name as it stands in its piece, quotes included. A byte that would break the line is shown as an escape. */
 static void show_name(struct walk *walk, const char *sigil, uint64_t name) {
-  uint64_t start = upper(name), length = lower(name);
-  if (start > walk->piece.length || length > walk->piece.length - start) {
-    fault(walk, "name outside the piece");
+  uint64_t start, length;
+  if (!zimlokur_name(walk->piece.bytes, walk->piece.length, name, &start, &length)) {
+    fault(walk, "no name in the piece");
     return;
   }
   printf(" %s", sigil);
@@ -257,26 +280,10 @@ static void show_float(uint64_t bits) {
 
 static int has_destination(unsigned kind) { return kind >= ZIMLOKUR_K_BIN && kind <= ZIMLOKUR_K_FENCE; }
 
-/* How many payload words an instruction has behind its destination. */
-static size_t numbers_of(struct header header) {
-  switch (header.kind) {
-  case ZIMLOKUR_K_LOAD:
-  case ZIMLOKUR_K_STORE:
-    return (header.detail & ZIMLOKUR_D_ALIGN) != 0;
-  case ZIMLOKUR_K_ALLOCA:
-    return (header.detail & ZIMLOKUR_D_ALLOCA_ALIGN) != 0;
-  case ZIMLOKUR_K_EXTRACT_VALUE:
-    return 1;
-  default:
-    return 0;
-  }
-}
-
-/* How many payload words stand between a node's header and its children. */
-static size_t payload_of(struct header header) {
-  if (has_destination(header.kind))
-    return 1 + numbers_of(header);
-  switch (header.kind) {
+/* Whether a payload has as many words as are shown of its kind. Behind a destination there may be an alignment or an index; a switch has
+ * the number of its cases and two words for each of them. */
+static int is_payload(unsigned kind, struct payload payload) {
+  switch (kind) {
   case ZIMLOKUR_K_INT:
   case ZIMLOKUR_K_ARRAY:
   case ZIMLOKUR_K_NAMED:
@@ -288,31 +295,32 @@ static size_t payload_of(struct header header) {
   case ZIMLOKUR_K_BLOCK:
   case ZIMLOKUR_K_PARAM:
   case ZIMLOKUR_K_NAME:
-    return 1;
+    return payload.length == 1;
   case ZIMLOKUR_K_INT_CONST:
-    return 2;
-  case ZIMLOKUR_K_SWITCH: /* two words for each case; type, value and default are children before the cases' labels */
-    return header.children > 3 ? 2 * (header.children - 3) : 0;
+    return payload.length == 2;
+  case ZIMLOKUR_K_SWITCH:
+    return payload.length % 2 == 1 && payload.words[0] == payload.length / 2;
   default:
-    return 0;
+    return has_destination(kind) ? payload.length == 1 || payload.length == 2 : payload.length == 0;
   }
 }
 
-/* A destination if there is one, and the numbers behind it: an alignment or an index. */
-static void show_instruction(struct walk *walk, struct span payload) {
+/* A destination if there is one, and the number behind it: an alignment or an index. */
+static void show_instruction(struct walk *walk, struct payload payload) {
   if (payload.words[0] != 0)
     show_name(walk, "%", payload.words[0]);
-  for (size_t k = 1; k < payload.length; k++)
-    printf(" %" PRIu64, payload.words[k]);
+  if (payload.length > 1)
+    printf(" %" PRIu64, payload.words[1]);
 }
 
-static void show_cases(struct span payload) {
-  for (size_t k = 0; k + 1 < payload.length; k += 2)
-    show_int(payload.words[k], payload.words[k + 1]);
+/* Integers of two words each. */
+static void show_ints(const uint64_t *ints, uint64_t count) {
+  for (uint64_t k = 0; k < count; k++)
+    show_int(ints[2 * k], ints[2 * k + 1]);
 }
 
-/* What stands between the header and the children, by the kind; there are as many words as `payload_of` says. */
-static void show_payload(struct walk *walk, unsigned kind, struct span payload) {
+/* What stands between the header and the children, by the kind; there are as many words as `is_payload` asks for. */
+static void show_payload(struct walk *walk, unsigned kind, struct payload payload) {
   if (payload.length == 0)
     return;
   switch (kind) {
@@ -321,8 +329,10 @@ static void show_payload(struct walk *walk, unsigned kind, struct span payload) 
     printf(" %" PRIu64, payload.words[0]);
     break;
   case ZIMLOKUR_K_INT_CONST:
-  case ZIMLOKUR_K_SWITCH:
-    show_cases(payload);
+    show_ints(payload.words, 1);
+    break;
+  case ZIMLOKUR_K_SWITCH: /* the cases; how many there are shows */
+    show_ints(payload.words + 1, payload.words[0]);
     break;
   case ZIMLOKUR_K_FLOAT_CONST:
     show_float(payload.words[0]);
@@ -356,20 +366,36 @@ static void show_payload(struct walk *walk, unsigned kind, struct span payload) 
 
 static void indent(unsigned level) { printf("%*s", (int)(2 * level), ""); }
 
-static size_t show_node(struct walk *walk, struct span span, unsigned level);
+/* The node at the handle's place, which must end at `end` or before; whether it is one. Its payload is what stands before its first child,
+ * of a leaf all that is behind its header. */
+static int find_node(struct handle handle, uint64_t end, struct node *node) {
+  struct header header = header_of(handle.words[handle.at]);
+  uint64_t payload = handle.at + 1;
+  if (!kind_name(header.kind) || header.size == 0 || header.size > end - handle.at)
+    return 0;
+  node->header = header;
+  node->end = handle.at + header.size;
+  node->child = handle;
+  if (to_child(&node->child) != (header.children > 0) || node->child.at >= node->end)
+    return 0; /* children are counted, and the first one is not in there */
+  node->payload.words = handle.words + payload;
+  node->payload.length = (size_t)((header.children > 0 ? node->child.at : node->end) - payload);
+  return is_payload(header.kind, node->payload);
+}
 
-/* Nodes one behind the other: as many as `count` says, and they fill the words to their end. */
-static void show_nodes(struct walk *walk, struct span span, size_t count, unsigned level) {
+static uint64_t show_node(struct walk *walk, struct handle handle, uint64_t end, unsigned level);
+
+/* Nodes one behind the other, from the handle's place on: as many as `count` says, one at least, and the last one ends at `end`. */
+static void show_nodes(struct walk *walk, struct handle handle, uint64_t end, size_t count, unsigned level) {
+  uint64_t reached;
   size_t shown = 0;
-  while (shown < count && span.length > 0) {
-    size_t size = show_node(walk, span, level);
-    if (size == 0)
+  do {
+    reached = show_node(walk, handle, end, level);
+    if (reached == 0)
       return; /* that was said; where the next node begins is not known */
-    span.words += size;
-    span.length -= size;
     shown++;
-  }
-  if (shown < count || span.length > 0) {
+  } while (shown < count && to_next(&handle, end));
+  if (shown < count || reached < end) {
     indent(level);
     printf("?");
     fault(walk, "count and words differ");
@@ -377,23 +403,23 @@ static void show_nodes(struct walk *walk, struct span span, size_t count, unsign
   }
 }
 
-/* One node, which begins where `span` does and must end inside it; gives its size, 0 where it does not fit. */
-static size_t show_node(struct walk *walk, struct span span, unsigned level) {
-  struct header header = header_of(span.words[0]);
-  const char *name = kind_name(header.kind);
-  size_t payload = payload_of(header);
+/* One node, which begins at the handle's place and must end at `end` or before; gives where it ends, 0 where it does not fit. */
+static uint64_t show_node(struct walk *walk, struct handle handle, uint64_t end, unsigned level) {
+  struct node node;
+  const char *name = kind_name(header_of(handle.words[handle.at]).kind);
   indent(level);
   printf("%s", name ? name : "?");
-  if (!name || level > MOST_LEVELS || header.size > span.length || header.size < 1 + payload) {
+  if (level > MOST_LEVELS || !find_node(handle, end, &node)) {
     fault(walk, "no node");
     putchar('\n');
     return 0;
   }
-  show_detail(walk, header);
-  show_payload(walk, header.kind, (struct span){span.words + 1, payload});
+  show_detail(walk, node.header);
+  show_payload(walk, node.header.kind, node.payload);
   putchar('\n');
-  show_nodes(walk, (struct span){span.words + 1 + payload, header.size - 1 - payload}, header.children, level + 1);
-  return header.size;
+  if (node.header.children > 0)
+    show_nodes(walk, node.child, node.end, node.header.children, level + 1);
+  return node.end;
 }
 
 static int is_inside(uint64_t start, uint64_t length, size_t all) { return start <= all && length <= all - start; }
@@ -411,7 +437,8 @@ static size_t show_piece(struct text cue, struct room room, uint64_t number) {
   }
   putchar('\n');
   walk.piece = (struct text){cue.bytes + piece.start, (size_t)piece.length};
-  show_nodes(&walk, (struct span){room.words + piece.first_word, (size_t)piece.words}, piece.words > 0, 1);
+  if (piece.words > 0)
+    show_nodes(&walk, (struct handle){room.words + piece.first_word, (size_t)piece.words, 0}, piece.words, 1, 1);
   return walk.faults;
 }
 

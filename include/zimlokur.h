@@ -187,6 +187,40 @@ uint64_t zimlokur_reparse_define(const uint8_t *older, size_t older_len, const u
  * further on, which two errors in escapes give, counts the byte that is missing and is two columns behind. */
 void zimlokur_position(const uint8_t *text, size_t text_len, uint64_t place, uint64_t *line, uint64_t *column);
 
+/* Steps from node to node, over words that a reading left or any others. A place is the index of a node's header in words; a piece's
+ * first place is that of its directory entry, and a node's end is its place plus the number of words in its header.
+ *
+ * To the first child of the node at `at`, which stands behind the node's payload. A switch's payload begins with its case count.
+ * Returns 1 with the child's place in *to. Returns 0 with at in *to where there is no step: the header at `at` has no children, its kind
+ *   is none of zimlokur_kind, or no header stands at `at` or behind the payload: a word of extent 0 (its lower 32 bits), or a place past
+ *   the array. The place is counted without wrapping, whatever the case count.
+ * A step goes forward: at < *to < words_len. Nothing more is asked of the words: a header whose extent reaches past the array or past its
+ *   parent's end is stepped from and to like any other.
+ * Answer and *to are those of the definition `childOf`.
+ */
+uint64_t zimlokur_child(const uint64_t *words, size_t words_len, uint64_t at, uint64_t *to);
+
+/* To the next node behind the one at `at`, below an end: that of the given parent, or words_len.
+ *
+ * Returns 1 with the next node's place in *to. Returns 0 with at in *to where there is no step: the place behind the node is not below
+ *   end, or no header stands at `at` or there. The place is counted without wrapping.
+ * A step goes forward: at < *to < words_len, and *to < end.
+ * Over words that an accepted reading left: from place 0, the child, else the next one below words_len, meets every node one time, each
+ *   before those below it; the child, then the next ones below the parent's end, are the parent's children.
+ * Answer and *to are those of the definition `nextOf`.
+ */
+uint64_t zimlokur_next(const uint64_t *words, size_t words_len, uint64_t at, uint64_t end, uint64_t *to);
+
+/* The text of a name: a part of the piece's text, which is lent from the piece's start. `name` is the name's word, the first payload word
+ * of a node that has one: docs/RECORDS.md says which do.
+ *
+ * Returns 1 with where the part starts in the piece in *start and its number of bytes in *length: *start + *length is at most piece_len.
+ * Returns 0 with 0 in both where the word is 0, which is no name, or the part reaches past the piece. Of an accepted reading every name
+ *   but 0 lies in its piece.
+ * Answer, *start and *length are those of the definition `partOf`.
+ */
+uint64_t zimlokur_name(const uint8_t *piece, size_t piece_len, uint64_t name, uint64_t *start, uint64_t *length);
+
 #ifdef __cplusplus
 }
 #endif

@@ -5,7 +5,7 @@
 use mathlib.Core.Bool.{Bool, true, false}
 use mathlib.Core.List.{List, [], _∷_, _++_}
 use mathlib.Core.Option.{Option, none, some}
-use Prim.Native.Nat.{ℕ, zero, suc, _+_, _*_}
+use Prim.Native.Nat.{ℕ, zero, suc, _+_, _-_, _*_}
 use lib.Dec.{ltb, eqb}
 use lib.ListN.{length, getD}
 use Rattle.program.specs.Bytes.{bytes, byte, table}
@@ -410,15 +410,20 @@ switchCases (suc u) n ints labels =
       l ← child n target
       switchCases u (n + 1) (ints ++ c) (labels ++ labelNode l))
 
+-- type, value and default are children before the cases' labels
+abbrev pub switchFront : ℕ
+switchFront = 3
+
+-- M-111: "A switch's payload now begins with its case count."
 unfoldable pub switchNode : List ℕ → ℕ → Cases → List ℕ
-switchNode x def (cases n ints labels) = node (kind Switch) dNone n (((ints ++ x) ++ labelNode def) ++ labels)
+switchNode x def (cases n ints labels) = node (kind Switch) dNone n (((((n - switchFront) ∷ ints) ++ x) ++ labelNode def) ++ labels)
 
 unfoldable pub parseSwitch : Prog (List ℕ)
 parseSwitch = do
   x ← parseTypedVal depthLimit
   def ← target
   _ ← expectToken (byte "[")
-  c ← switchCases listTurns 3 [] []
+  c ← switchCases listTurns switchFront [] []
   _ ← parseTrailing
   ret (switchNode x def c)
 

@@ -1,4 +1,4 @@
--- 01, "Known readings": the starred ones, two of M-100 and some of M-106; one table with one theorem by computation on these very definitions.
+-- 01, "Known readings": the starred ones, two of M-100, some of M-106 and two of M-111; one table with one theorem by computation on these very definitions.
 -- Assumes nothing.
 use mathlib.Core.Path.{_≡_, refl}
 use mathlib.Core.List.{List, [], _∷_, _++_, map}
@@ -165,6 +165,8 @@ asked =
     ∷ function (bytes "void @f(){%4294967296=freeze i8 1}")
     ∷ numbers 3 (bytes "7: x: call i8 @g() call void @g() %9 = call i8 @g() call ptr @g() ret void")
     ∷ numbers 3 (bytes "call i8 @g() ret void")
+    ∷ statement (bytes "switch i8 7,label %a[i8 9,label %b]")
+    ∷ statement (bytes "switch i8 7,label %a[]")
     ∷ []
 
 -- The headers of what stands there: a head with one child, a block with one, `ret` without and with a value.
@@ -215,6 +217,10 @@ known =
     ∷ (9 ∷ 0 ∷ 0 ∷ 11 ∷ [])
     -- the block is 3, the call 4
     ∷ (5 ∷ [])
+    -- kind 54, 4 children, 13 words; one case, 9; i8; 7; `a` at 19; `b` at 33
+    ∷ (2 ∷ 35 ∷ 0x3600_0004_0000_000D ∷ 1 ∷ 0 ∷ 9 ∷ 0x0200_0000_0000_0002 ∷ 8 ∷ 0x1200_0000_0000_0003 ∷ 0 ∷ 7 ∷ 0x3F00_0000_0000_0002 ∷ 0x0000_0013_0000_0001 ∷ 0x3F00_0000_0000_0002 ∷ 0x0000_0021_0000_0001 ∷ [])
+    -- 3 children, 9 words; no case
+    ∷ (2 ∷ 22 ∷ 0x3600_0003_0000_0009 ∷ 0 ∷ 0x0200_0000_0000_0002 ∷ 8 ∷ 0x1200_0000_0000_0003 ∷ 0 ∷ 7 ∷ 0x3F00_0000_0000_0002 ∷ 0x0000_0013_0000_0001 ∷ [])
     ∷ []
 
 pub known-readings : map answer asked ≡ known

@@ -14,15 +14,15 @@ use Rattle.records.specs.Words.{node, header}
 use Rattle.grammar.specs.Lexer.{eatWs, refuse, expectToken, expectKeyword}
 use Rattle.records.specs.Kinds.{kind, IntConst}
 use Rattle.grammar.specs.Types.{room, child}
-use Rattle.grammar.specs.Instructions.{labelNode, parseOperand, target, caseInt, Cases, cases, switchCases, switchNode}
-use Rattle.writer.specs.Writes.{joined, pushed, pushes, closes, restarted}
+use Rattle.grammar.specs.Instructions.{labelNode, parseOperand, target, caseInt, Cases, cases, switchCases, switchFront, switchNode}
+use Rattle.writer.specs.Writes.{joined, pushed, pushes, closes, patches, restarted}
 use Rattle.lexer.specs.Step.{looksP, passed, refused, countedP}
 use Rattle.lexer.specs.Reads.{Budget, At, Ends, at, out, Leads, Goal, made, same, Inside, Gave, got, not, Gives}
 use Rattle.lexer.specs.declared.Cursor.{Cursor}
 use Rattle.lexer.specs.declared.Parsed.{Parsed}
 use Rattle.lexer.specs.declared.Parsed.the-variants.{Ok, Refused}
 use Rattle.lexer.proofs.Laws.{no-ok, true-false, after, bind-at, at-less, more, no-more, Passes, val, val-paid, token-yes, token-no, spare, fail-is, write-then}
-use Rattle.writer.proofs.Laws.{push-then, close-is}
+use Rattle.writer.proofs.Laws.{push-then, patch-then, close-is}
 use Rattle.lexer.proofs.Children.{g-child, in-room}
 use Rattle.names.proofs.Passed.{passes-any, passes-then, passes-token, passes-keyword, passes-local}
 use Rattle.operands.specs.Kept.{keeps, keeps-not, kept, nothing}
@@ -187,6 +187,7 @@ taken-past i c q w e l = go (ltb i (c .w)) refl
 pub taken-out : (i : ℕ) (c : Cursor) (q : Parsed) (w : List ℕ) → q ≡ Ok c → c .w ≤ i → 0 ≡ takenP i q w
 taken-out i c q w e h = rw (e, le-ltb _ _ h)
 
-pub switch-close : (x ints labels : List ℕ) (def n : ℕ) {c : ℕ} {text : List ℕ} {p0 p q : Parsed} {w w′ : List ℕ} → (q ≡ p) × (w′ ≡ closes 54 0 n p0 p w) → Leads (ret (switchNode x def (cases n ints labels))) c (0 ∷ (((ints ++ x) ++ labelNode def) ++ labels)) (made same text p0) text p0 p w q w′
+-- the count goes to the word that was left open for it, and the node ends
+pub switch-close : (x ints labels : List ℕ) (def n m : ℕ) {c : ℕ} {text : List ℕ} {p0 p q r : Parsed} {w v w′ : List ℕ} → m ≡ n - switchFront → (q ≡ p) × (v ≡ patches 1 m p0 p w) → (r ≡ q) × (w′ ≡ closes 54 0 n p0 q v) → Leads (ret (switchNode x def (cases n ints labels))) c (0 ∷ 0 ∷ (((ints ++ x) ++ labelNode def) ++ labels)) (made same text p0) text p0 p w r w′
 unfolding switchNode
-switch-close x ints labels def n h = close-is 54 0 n (((ints ++ x) ++ labelNode def) ++ labels) h
+switch-close x ints labels def n m e o h = patch-then 1 m (0 ∷ []) 0 _ refl o (rw (← e) (close-is 54 0 n _ h))

@@ -1,4 +1,4 @@
-// `parse_switch`: the cases' integers are payload and stand first, the operand and the labels behind them.
+// `parse_switch`: the count of the cases and their integers are payload and stand first, the operand and the labels behind them.
 use lexer::Parsed;
 ghost use mathlib.Core.Path.{_≡_};
 ghost use mathlib.Core.List.{[], _∷_};
@@ -10,6 +10,9 @@ ghost use Rattle.lexer.specs.Reads.{Leads, Gives, made, same};
 ghost use Rattle.operands.specs.Rich.{richly};
 ghost use Rattle.operands.specs.Kept.{kept, nothing};
 ghost use Rattle.terminators.specs.Switch.{takenP, stoppedP};
+
+// `switchFront`: type, value and default are children before the cases' labels.
+const SWITCH_FRONT: u16 = 3;
 
 // Word i of those that were written up to q.
 fn taken(words: &[u64], q: Parsed, i: usize) -> u64
@@ -78,7 +81,7 @@ fn switch_ints(classes: &[u8; 256], text: &[u8], words: &mut [u64], p: Parsed) -
 {
     let mut q = p;
     let mut left: usize = records::LIST_TURNS;
-    let mut n: u16 = 3;
+    let mut n: u16 = SWITCH_FRONT;
     while 0 < left {
         q = lexer::eat_ws(classes, text, q);
         if lexer::looks(text, q, b']') {
@@ -109,7 +112,7 @@ fn switch_labels(classes: &[u8; 256], text: &[u8], words: &mut [u64], p: Parsed)
 {
     let mut q = p;
     let mut left: usize = records::LIST_TURNS;
-    let mut n: u16 = 3;
+    let mut n: u16 = SWITCH_FRONT;
     while 0 < left {
         q = lexer::eat_ws(classes, text, q);
         if lexer::looks(text, q, b']') {
@@ -132,28 +135,31 @@ fn switch_labels(classes: &[u8; 256], text: &[u8], words: &mut [u64], p: Parsed)
     Cases { p: q, n }
 }
 
-// `switch T V, label %d [ T V, label %a .. ]`
+// `switch T V, label %d [ T V, label %a .. ]`. The word before the integers is left open until the cases are counted.
 pub fn parse_switch(classes: &[u8; 256], text: &[u8], words: &mut [u64], p: Parsed) -> Parsed
     requires { ⌜ Classes (now classes) ⌝ }
     ensures { λ r. ⌜ Leads parseSwitch 3 [] (richly (now (text .entry)) (made same (now (text .entry)) p)) (now (text .entry)) p p (now (words .entry)) r (now (words .exit)) ⌝ }
 {
     let p1 = writer::push(words, p, 0);
-    let q = operands::pass_typed_val(classes, text, p1);
-    let q1 = writer::join(p1, q);
+    let p2 = writer::push(words, p1, 0);
+    let q = operands::pass_typed_val(classes, text, p2);
+    let q1 = writer::join(p2, q);
     let d = operands::target(classes, text, q1);
     let q2 = d.p;
-    let p2 = lexer::expect_token(classes, text, q2, b'[');
-    let c = switch_ints(classes, text, words, p2);
+    let p3 = lexer::expect_token(classes, text, q2, b'[');
+    let c = switch_ints(classes, text, words, p3);
     let q3 = c.p;
     let t = operands::parse_trailing(classes, text, q3);
     let q4 = t.p;
-    let z = operands::resume(q4, p1);
+    let z = operands::resume(q4, p2);
     let z1 = values::parse_typed_val(classes, text, words, z, records::DEPTH_LIMIT);
     let q5 = operands::resume(z1, q4);
     let q6 = operands::label_node(words, q5, d.v);
-    let z2 = operands::resume(q6, p2);
+    let z2 = operands::resume(q6, p3);
     let l = switch_labels(classes, text, words, z2);
     let z3 = l.p;
     let q7 = operands::resume(z3, q6);
-    writer::close(words, p, q7, records::K_SWITCH, records::D_NONE, c.n)
+    let count = lexer::minus(c.n as usize, SWITCH_FRONT as usize);
+    let q8 = writer::patch(words, p, q7, 1, count as u64);
+    writer::close(words, p, q8, records::K_SWITCH, records::D_NONE, c.n)
 }

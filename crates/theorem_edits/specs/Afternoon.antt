@@ -68,7 +68,7 @@ pub refused-unchanged : (words dir : List ℕ) (n : ℕ) (older newer : List ℕ
 unfolding rereadingOf reread
 refused-unchanged words dir n older newer q p ws ds e = olds-unchanged headAt blockAt words dir older newer _ q p ws ds e
 
-alike : (words dir : List ℕ) (l : Left) (n : ℕ) (ws ds : List ℕ) → orAsLent words dir l ≡ left (count n) ws ds → l ≡ left (count n) ws ds
+pub alike : (words dir : List ℕ) (l : Left) (n : ℕ) (ws ds : List ℕ) → orAsLent words dir l ≡ left (count n) ws ds → l ≡ left (count n) ws ds
 unfolding orAsLent
 alike words dir (left (count m) us vs) n ws ds e = e
 alike words dir (left (refusedAt q p) us vs) n ws ds e = let z : _≡_ {A = ℕ} 0 1 = cc in absurd (omega arith)

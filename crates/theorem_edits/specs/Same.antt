@@ -21,10 +21,10 @@ use Rattle.theorem_edits.specs.Chain.{and-true}
 use Rattle.theorem_edits.specs.Law.{Grammar, IsReading, core, blocks-block, blocks-tail, blocks-bad}
 
 -- Questions 20 and 21 of one piece, passed.
-record Fits (W D i at n : ℕ) : Type 0 where
-  words : at + n ≤ W
-  small : at + n < halfLimit
-  entry : i * entryWords + entryWords ≤ D
+pub record Fits (W D i at n : ℕ) : Type 0 where
+  pub words : at + n ≤ W
+  pub small : at + n < halfLimit
+  pub entry : i * entryWords + entryWords ≤ D
 
 data JudgeStep (W D i pos at e c n : ℕ) (r : Run ℕ) (v : Verdict) : Type 0 where
   passes : Fits W D i at n → v ≡ judge W D (suc i) (pos + e) (at + n) r → JudgeStep W D i pos at e c n r v
@@ -46,12 +46,12 @@ judgeStep W D i pos at e c n r = go (leb (at + n) W && ltb (at + n) halfLimit) r
     go false p = fails 20 (pos + e) (rw (judge, p))
 
 -- One piece of an accepted run fits, and the rest is accepted.
-record Accepted (W D i pos at e c n : ℕ) (r : Run ℕ) : Type 0 where
-  fits : Fits W D i at n
-  others : judge W D (suc i) (pos + e) (at + n) r ≡ fine
-  step : judge W D i pos at (item e c n r) ≡ judge W D (suc i) (pos + e) (at + n) r
+pub record Accepted (W D i pos at e c n : ℕ) (r : Run ℕ) : Type 0 where
+  pub fits : Fits W D i at n
+  pub others : judge W D (suc i) (pos + e) (at + n) r ≡ fine
+  pub step : judge W D i pos at (item e c n r) ≡ judge W D (suc i) (pos + e) (at + n) r
 
-accepts : (W D i pos at e c n : ℕ) (r : Run ℕ) → judge W D i pos at (item e c n r) ≡ fine → Accepted W D i pos at e c n r
+pub accepts : (W D i pos at e c n : ℕ) (r : Run ℕ) → judge W D i pos at (item e c n r) ≡ fine → Accepted W D i pos at e c n r
 accepts W D i pos at e c n r h = go (judgeStep W D i pos at e c n r)
   where
     go : JudgeStep W D i pos at e c n r (judge W D i pos at (item e c n r)) → Accepted W D i pos at e c n r
@@ -109,7 +109,7 @@ oldsOf at done = []
 oldsOf at (stop q p) = []
 oldsOf at (item e c ws r) = old e at (length ws) c ∷ oldsOf (at + length ws) r
 
-sizes : Run (List ℕ) → ℕ
+unfoldable pub sizes : Run (List ℕ) → ℕ
 sizes done = 0
 sizes (stop q p) = 0
 sizes (item e c ws r) = e + sizes r
@@ -161,7 +161,7 @@ entries-fit W D i pos at (item e c ws r) l h =
     let m : suc i * entryWords + length (entries (pos + e) (at + length ws) r) ≤ D = entries-fit W D (suc i) (pos + e) (at + length ws) r (omega arith) (a .others) in
     omega arith
 
-length-pad : (n : ℕ) (xs : List ℕ) → length xs ≤ n → length (pad n xs) ≡ n
+pub length-pad : (n : ℕ) (xs : List ℕ) → length xs ≤ n → length (pad n xs) ≡ n
 unfolding pad
 length-pad n xs h = length-append xs (replicate (n - length xs) 0) ∙ ap (λ (k : ℕ). length xs + k) (length-replicate (n - length xs) 0) ∙ omega arith
 
@@ -202,12 +202,12 @@ unfolding andThen
 and-then-fine fine w h = (refl, h)
 and-then-fine (refused q p) w h = let z : _≡_ {A = ℕ} 0 1 = cc in absurd (omega arith)
 
-text-small : (s : List ℕ) → textAsked s ≡ fine → length s < halfLimit
+pub text-short : (s : List ℕ) → textAsked s ≡ fine → length s ≤ textLimit
 unfolding textAsked
-text-small s h = go (leb (length s) textLimit) refl
+text-short s h = go (leb (length s) textLimit) refl
   where
-    go : (b : Bool) → leb (length s) textLimit ≡ b → length s < halfLimit
-    go true t = omega (arith, leb-true (length s) textLimit t)
+    go : (b : Bool) → leb (length s) textLimit ≡ b → length s ≤ textLimit
+    go true t = leb-true (length s) textLimit t
     go false t = let w : refused qLength textLimit ≡ fine = rw (t, textAsked) at h in let z : _≡_ {A = ℕ} 0 1 = cc in absurd (omega arith)
 
 -- An accepted call: the verdict is fine, and what is left is the run's.
@@ -234,6 +234,9 @@ unfolding leftOf leaveAgain leave orAsLent
 leaveAgain-is words dir fine k r all = refl
 leaveAgain-is words dir (refused q p) k r all = refl
 
+text-small : (s : List ℕ) → textAsked s ≡ fine → length s < halfLimit
+text-small s h = omega (arith, text-short s h)
+
 module _ (headAt : List ℕ → HeadRead) (blockAt : ℕ → List ℕ → BlockRead) (G : Grammar headAt blockAt) where
   sizes-blocksIn : (n c : ℕ) (s : List ℕ) → sizes (blocksIn headAt blockAt n c s) ≤ length s
   unfolding blocksIn sizes
@@ -245,7 +248,7 @@ module _ (headAt : List ℕ → HeadRead) (blockAt : ℕ → List ℕ → BlockR
       go (tail e) p ih = rw (p, blocksIn) (omega (arith, G .tail-fits c s e p))
       go (badBlock q x) p ih = rw (p, blocksIn) (omega arith)
 
-  sizes-reading : (s : List ℕ) → sizes (reading headAt blockAt s) ≤ length s
+  pub sizes-reading : (s : List ℕ) → sizes (reading headAt blockAt s) ≤ length s
   unfolding reading sizes blocks
   sizes-reading s = go (headAt s) refl
     where

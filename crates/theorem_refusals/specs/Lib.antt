@@ -1,4 +1,5 @@
 pub mod Common
+pub mod Trees
 pub mod Inside
 pub mod Lexer
 pub mod Numbers

@@ -1,3 +1,4 @@
 pub mod Report
 pub mod Zero
 pub mod Afternoon
+pub mod Walk

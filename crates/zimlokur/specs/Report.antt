@@ -1,8 +1,10 @@
 -- What the calls from outside report, in 01's numbers.
 -- Assumes nothing.
 use mathlib.Core.List.{List}
+use mathlib.Core.Option.{Option, none, some}
 use Prim.Native.Nat.{ℕ}
 use Rattle.records.specs.Pieces.{Answer, refusedAt, count, Left, left, Again, again-left}
+use Rattle.trees.specs.Steps.{Part, part}
 
 -- the question that refuses, or 0; the place, 0 where it is accepted; the entry count, 0 where it is refused
 abbrev pub questionOf : Answer → ℕ
@@ -24,3 +26,13 @@ pub data Reports : Left → (r place entries : ℕ) (words dir : List ℕ) → T
 -- A re-reading: also the number of the first piece read, and how many are read.
 pub data ReportsAgain : Again → (r place entries first many : ℕ) (words dir : List ℕ) → Type 0 where
   reports-again : {a : Answer} {words dir : List ℕ} {first many : ℕ} → ReportsAgain (again-left (left a words dir) first many) (questionOf a) (placeOf a) (entriesOf a) first many words dir
+
+-- A step: 1 and the place it goes to; or 0 and the place `at` where it was asked.
+pub data ReportsStep : Option ℕ → (at r to : ℕ) → Type 0 where
+  made : {at to : ℕ} → ReportsStep (some to) at 1 to
+  stays : {at : ℕ} → ReportsStep none at 0 at
+
+-- A name: 1 and the start and length of its part of the piece; or three times 0.
+pub data ReportsPart : Option Part → (r start length : ℕ) → Type 0 where
+  found : {start length : ℕ} → ReportsPart (some (part start length)) 1 start length
+  no-part : ReportsPart none 0 0 0

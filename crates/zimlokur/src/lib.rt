@@ -1,11 +1,14 @@
 // The calls for firmware and test benches, with C's prototypes in include/zimlokur.h.
 use reading::Answer;
 use reading::Reread;
+use steps::Step;
+use steps::names::Text;
 ghost use mathlib.Core.Path.{_≡_};
 ghost use lib.ListN.{length};
 ghost use Rattle.grammar.specs.Function.{readingOf, rereadingOf};
 ghost use Rattle.lines.specs.Place.{positionOf};
-ghost use Rattle.zimlokur.specs.Report.{Reports, ReportsAgain};
+ghost use Rattle.trees.specs.Steps.{childOf, nextOf, partOf};
+ghost use Rattle.zimlokur.specs.Report.{Reports, ReportsAgain, ReportsStep, ReportsPart};
 
 // The full reading. Returns 0, or the number of the question that refuses; then both arrays are zero.
 #[no_mangle]
@@ -73,4 +76,57 @@ pub extern "C" fn zimlokur_position(text: &[u8], place: u64, line: &mut u64, col
     let at = lines::position_of(text, place as usize);
     *line = at.line as u64;
     *column = at.column as u64;
+}
+
+// The step to a node's first child. Returns 1 with the place it goes to, or 0 with the place it was asked at.
+#[no_mangle]
+pub extern "C" fn zimlokur_child(words: &[u64], at: u64, to: &mut u64) -> u64
+    ensures { λ r. ⌜ ReportsStep (childOf (now (words .entry)) at) at r (now (to .exit)) ⌝ }
+{
+    match steps::child(words, at as usize) {
+        Step::To(place) => {
+            *to = place as u64;
+            1
+        }
+        Step::Nothing => {
+            *to = at;
+            0
+        }
+    }
+}
+
+// The step to the next node below an end. Returns 1 with the place it goes to, or 0 with the place it was asked at.
+#[no_mangle]
+pub extern "C" fn zimlokur_next(words: &[u64], at: u64, end: u64, to: &mut u64) -> u64
+    ensures { λ r. ⌜ ReportsStep (nextOf (now (words .entry)) at end) at r (now (to .exit)) ⌝ }
+{
+    match steps::next(words, at as usize, end as usize) {
+        Step::To(place) => {
+            *to = place as u64;
+            1
+        }
+        Step::Nothing => {
+            *to = at;
+            0
+        }
+    }
+}
+
+// The text of a name. Returns 1 with the part's start and length in the piece, or 0 with both 0.
+#[no_mangle]
+pub extern "C" fn zimlokur_name(piece: &[u8], name: u64, start: &mut u64, len: &mut u64) -> u64
+    ensures { λ r. ⌜ ReportsPart (partOf (length (now (piece .entry))) name) r (now (start .exit)) (now (len .exit)) ⌝ }
+{
+    match steps::names::part(piece, name) {
+        Text::Part(from, bytes) => {
+            *start = from as u64;
+            *len = bytes as u64;
+            1
+        }
+        Text::Nothing => {
+            *start = 0;
+            *len = 0;
+            0
+        }
+    }
 }

@@ -1,10 +1,34 @@
-//! Arrays to lend, with guards on both sides that no reader may touch.
+//! Arrays to lend and places of results, with guards on both sides that no reader may touch.
 
 const GUARD: u64 = 0xdead_beef_dead_beef;
 const GUARDS: usize = 8;
 
 /// What a lent array holds before a full reading.
 pub const GARBAGE: u64 = 0xa5a5_a5a5_a5a5_a5a5;
+
+/// What a result holds before a call, so that one left unwritten shows.
+pub const UNSET: u64 = 0x5a5a_5a5a_5a5a_5a5a;
+
+/// The place of one result of a call.
+pub struct Stored([u64; 3]);
+
+impl Stored {
+    pub fn unset() -> Stored {
+        Stored([GUARD, UNSET, GUARD])
+    }
+
+    pub fn place(&mut self) -> &mut u64 {
+        &mut self.0[1]
+    }
+
+    /// What was stored, if nothing was written beside it.
+    pub fn get(&self) -> Result<u64, String> {
+        match self.0 {
+            [GUARD, result, GUARD] => Ok(result),
+            _ => Err("it wrote beside its result".to_string()),
+        }
+    }
+}
 
 #[derive(Clone, Debug)]
 pub struct Lent(Vec<u64>);

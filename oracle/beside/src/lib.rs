@@ -11,6 +11,7 @@ pub mod port;
 pub mod reread;
 pub mod rooms;
 pub mod shrink;
+pub mod walk;
 
 #[cfg(zimlokur)]
 pub mod linked;

@@ -1,6 +1,7 @@
 //! The static library. Nothing checks these declarations against the header: they are kept to
 //! numbers and slices, and every result is compared.
 
+use crate::lent::UNSET;
 use crate::port::{Parsed, Port, Reparsed};
 
 extern "C" {
@@ -33,10 +34,14 @@ extern "C" {
         first: *mut u64,
         read: *mut u64,
     ) -> u64;
-}
 
-/// What results hold before a call, so that one left unwritten shows.
-const UNSET: u64 = 0x5a5a_5a5a_5a5a_5a5a;
+    fn zimlokur_child(words: *const u64, words_len: usize, at: u64, to: *mut u64) -> u64;
+
+    fn zimlokur_next(words: *const u64, words_len: usize, at: u64, end: u64, to: *mut u64) -> u64;
+
+    fn zimlokur_name(piece: *const u8, piece_len: usize, name: u64, start: *mut u64, length: *mut u64)
+        -> u64;
+}
 
 pub struct Library;
 
@@ -102,5 +107,17 @@ impl Port for Library {
     #[cfg(not(feature = "reread"))]
     fn reparse_define(&self, _: &[u8], _: &[u8], _: &mut [u64], _: &mut [u64], _: u64) -> Reparsed {
         unreachable!("rereads() says no")
+    }
+
+    fn child(&self, words: &[u64], at: u64, to: &mut u64) -> u64 {
+        unsafe { zimlokur_child(words.as_ptr(), words.len(), at, to) }
+    }
+
+    fn next(&self, words: &[u64], at: u64, end: u64, to: &mut u64) -> u64 {
+        unsafe { zimlokur_next(words.as_ptr(), words.len(), at, end, to) }
+    }
+
+    fn name(&self, piece: &[u8], name: u64, start: &mut u64, length: &mut u64) -> u64 {
+        unsafe { zimlokur_name(piece.as_ptr(), piece.len(), name, start, length) }
     }
 }

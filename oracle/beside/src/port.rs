@@ -1,6 +1,8 @@
 //! The calls of the static library, as a trait: the library itself, the model, and wrong readers
 //! to try the comparison on.
 
+use model::steps;
+
 /// `zimlokur_parse_define`: 0 or the refusal's number, and what it stored.
 #[derive(Clone, Copy, Debug, PartialEq, Eq)]
 pub struct Parsed {
@@ -36,6 +38,15 @@ pub trait Port: Sync {
         directory: &mut [u64],
         entries: u64,
     ) -> Reparsed;
+
+    /// `zimlokur_child`: 1 with the new place, or 0 with the old one (M-111).
+    fn child(&self, words: &[u64], at: u64, to: &mut u64) -> u64;
+
+    /// `zimlokur_next`, likewise.
+    fn next(&self, words: &[u64], at: u64, end: u64, to: &mut u64) -> u64;
+
+    /// `zimlokur_name`: 1 with the part's start and length, or 0 with zeros.
+    fn name(&self, piece: &[u8], name: u64, start: &mut u64, length: &mut u64) -> u64;
 }
 
 /// The model as a port.
@@ -75,5 +86,23 @@ impl Port for Model {
             },
             Err(r) => Reparsed { number: r.number, place: r.place as u64, entries: 0, first: 0, read: 0 },
         }
+    }
+
+    fn child(&self, words: &[u64], at: u64, to: &mut u64) -> u64 {
+        let place = steps::child(words, at);
+        *to = place.unwrap_or(at);
+        u64::from(place.is_some())
+    }
+
+    fn next(&self, words: &[u64], at: u64, end: u64, to: &mut u64) -> u64 {
+        let place = steps::next(words, at, end);
+        *to = place.unwrap_or(at);
+        u64::from(place.is_some())
+    }
+
+    fn name(&self, piece: &[u8], name: u64, start: &mut u64, length: &mut u64) -> u64 {
+        let part = steps::name(piece, name);
+        (*start, *length) = part.unwrap_or((0, 0));
+        u64::from(part.is_some())
     }
 }

@@ -82,6 +82,18 @@ impl Port for Wrong {
     fn reparse_define(&self, _: &[u8], _: &[u8], _: &mut [u64], _: &mut [u64], _: u64) -> Reparsed {
         unreachable!("rereads() says no")
     }
+
+    fn child(&self, _: &[u64], _: u64, _: &mut u64) -> u64 {
+        unreachable!("no step is made")
+    }
+
+    fn next(&self, _: &[u64], _: u64, _: u64, _: &mut u64) -> u64 {
+        unreachable!("no step is made")
+    }
+
+    fn name(&self, _: &[u8], _: u64, _: &mut u64, _: &mut u64) -> u64 {
+        unreachable!("no step is made")
+    }
 }
 
 /// Whether some numeral shows the reader to be wrong.

@@ -1,11 +1,13 @@
 //! The comparison on wrong readers: each must be caught.
 
 use beside::port::{Model, Parsed, Port, Reparsed};
-use beside::{afternoon, check, reread, rooms};
+use beside::{afternoon, check, reread, rooms, walk};
 use judge::answer::on_big_stack;
 use judge::walk::{entry, ENTRY_WORDS};
 use judge::{left_out, misnumbered};
 use model::full::records;
+use model::nodes::Header;
+use model::steps;
 use texts::rng::Rng;
 use texts::Texts;
 
@@ -33,6 +35,29 @@ enum Wrong {
     BeginsWithZero,
     JoinsAnyCounter,
     TakesOtherThirdWords,
+    CountNotPassed,
+    CountWraps,
+    CountCutTo32Bits,
+    AlignmentNotPassed,
+    AlignmentByWholeDetail,
+    StepsFromExtentZero,
+    StepsToExtentZero,
+    StepsPastTheArray,
+    KeepsToTheExtent,
+    EntersUnknownKinds,
+    EntersNoLeafKind,
+    PassesNoUnknownKind,
+    EndNotCompared,
+    EndTaken,
+    KeepsBelowTheEnd,
+    ExtentWraps,
+    MovesWithoutAStep,
+    WritesBesideTheResult,
+    WritesWords,
+    NamePastThePiece,
+    NameEndWraps,
+    NameOfZero,
+    NameWithoutQuotes,
 }
 
 use Wrong::*;
@@ -143,6 +168,122 @@ impl Port for Wrong {
         }
         answer
     }
+
+    fn child(&self, words: &[u64], at: u64, to: &mut u64) -> u64 {
+        self.step(words, at, self.wrong_child(words, at), to)
+    }
+
+    fn next(&self, words: &[u64], at: u64, end: u64, to: &mut u64) -> u64 {
+        self.step(words, at, self.wrong_next(words, at, end), to)
+    }
+
+    fn name(&self, piece: &[u8], name: u64, start: &mut u64, length: &mut u64) -> u64 {
+        let found = self.wrong_name(piece, name);
+        (*start, *length) = found.unwrap_or((0, 0));
+        u64::from(found.is_some())
+    }
+}
+
+/// The header at a place, whatever it says.
+fn header_at(words: &[u64], at: u64) -> Option<Header> {
+    words.get(usize::try_from(at).ok()?).copied().map(Header::of)
+}
+
+/// A place at which a header stands.
+fn standing(words: &[u64], place: u64) -> Option<u64> {
+    header_at(words, place).filter(|header| header.extent > 0).map(|_| place)
+}
+
+/// What a step gives if no header in the array has the extent 0.
+fn without_zeros(words: &[u64], step: impl Fn(&[u64]) -> Option<u64>) -> Option<u64> {
+    let words: Vec<u64> = words.iter().map(|&word| if word as u32 == 0 { word | 1 } else { word }).collect();
+    step(&words)
+}
+
+/// The steps with one thing wrong.
+impl Wrong {
+    fn step(&self, words: &[u64], at: u64, place: Option<u64>, to: &mut u64) -> u64 {
+        let made = u64::from(place.is_some());
+        *to = place.unwrap_or(at);
+        match self {
+            MovesWithoutAStep if made == 0 => *to = at.wrapping_add(1),
+            WritesBesideTheResult => unsafe { *(to as *mut u64).add(1) = made },
+            // As a foreign function would: the bit changes no step.
+            WritesWords if made == 1 => unsafe {
+                let word = words.as_ptr().cast_mut().add(at as usize);
+                word.write_volatile(words[at as usize] | 1 << 55);
+            },
+            _ => {}
+        }
+        made
+    }
+
+    fn wrong_child(&self, words: &[u64], at: u64) -> Option<u64> {
+        let right = steps::child(words, at);
+        let header = header_at(words, at)?;
+        let switch = header.kind == 54 && header.children > 0 && header.extent > 0;
+        let count = || words.get(at as usize + 1).copied();
+        match self {
+            // As the records were before M-111.
+            CountNotPassed if switch => standing(words, at + 1 + 2 * header.children.saturating_sub(3)),
+            CountWraps if switch => {
+                standing(words, at.wrapping_add(count()?.wrapping_mul(2)).wrapping_add(2))
+            }
+            CountCutTo32Bits if switch => standing(words, at + 2 + 2 * u64::from(count()? as u32)),
+            AlignmentNotPassed if matches!(header.kind, 39..=41) => right.and(standing(words, at + 2)),
+            AlignmentByWholeDetail if matches!(header.kind, 39 | 40) => {
+                right.and(standing(words, at + 2 + u64::from(header.detail == 1)))
+            }
+            StepsFromExtentZero if header.extent == 0 => {
+                without_zeros(words, |words| steps::child(words, at))
+            }
+            StepsToExtentZero if header.extent > 0 => without_zeros(words, |words| steps::child(words, at)),
+            StepsPastTheArray if at as usize + 1 == words.len() && header.children > 0 => Some(at + 1),
+            KeepsToTheExtent => right.filter(|&place| place < at + header.extent),
+            EntersUnknownKinds if header.kind > 63 && header.children > 0 => standing(words, at + 1),
+            EntersNoLeafKind if matches!(header.kind, 1..=5) => None,
+            _ => right,
+        }
+    }
+
+    fn wrong_next(&self, words: &[u64], at: u64, end: u64) -> Option<u64> {
+        let right = steps::next(words, at, end);
+        let header = header_at(words, at)?;
+        match self {
+            StepsFromExtentZero if header.extent == 0 => {
+                without_zeros(words, |words| steps::next(words, at, end))
+            }
+            StepsToExtentZero if header.extent > 0 => {
+                without_zeros(words, |words| steps::next(words, at, end))
+            }
+            StepsPastTheArray if at + header.extent == words.len() as u64 => Some(words.len() as u64),
+            PassesNoUnknownKind if header.kind > 63 => None,
+            EndNotCompared => steps::next(words, at, u64::MAX),
+            EndTaken => steps::next(words, at, end.saturating_add(1)),
+            KeepsBelowTheEnd => {
+                right.filter(|&place| place + header_at(words, place).map_or(0, |h| h.extent) <= end)
+            }
+            ExtentWraps if header.extent > 0 => {
+                standing(words, (at + header.extent) & u64::from(u32::MAX)).filter(|&place| place < end)
+            }
+            _ => right,
+        }
+    }
+
+    fn wrong_name(&self, piece: &[u8], name: u64) -> Option<(u64, u64)> {
+        let right = steps::name(piece, name);
+        let (start, length) = (name >> 32, name & u64::from(u32::MAX));
+        let inside = |end: u64| (name != 0 && end <= piece.len() as u64).then_some((start, length));
+        match (self, right) {
+            (NamePastThePiece, _) => inside(start),
+            (NameEndWraps, _) => inside(start + length & u64::from(u32::MAX)),
+            (NameOfZero, _) if name == 0 => Some((0, 0)),
+            (NameWithoutQuotes, Some((start, length @ 2..))) if piece[start as usize] == b'"' => {
+                Some((start + 1, length - 2))
+            }
+            _ => right,
+        }
+    }
 }
 
 impl Wrong {
@@ -213,6 +354,54 @@ fn wrong_readers_are_caught() {
             assert!(caught(wrong), "{wrong:?}");
         }
     });
+}
+
+/// Whether the steps over some text show them to be wrong, and whether those over hostile words do.
+fn stumbles(port: Wrong) -> (bool, bool) {
+    let mut texts = Texts::new(21);
+    let mut rng = Rng::new(22);
+    let (mut walking, mut hostile) = (false, false);
+    for _ in 0..3000 {
+        let (_, text) = texts.draw();
+        let Ok(r) = records(&text) else { continue };
+        walking |= walk::function(&port, &mut rng, &text).is_some_and(|walked| walked.is_err());
+        hostile |= walk::hostile(&port, &mut rng, &r.words).is_err();
+    }
+    (walking, hostile)
+}
+
+/// M-111. What only words show that no reading left is not met on a walk.
+#[test]
+fn wrong_steps_are_caught() {
+    on_big_stack(|| {
+        let both = [
+            CountNotPassed, AlignmentNotPassed, EndNotCompared, EndTaken, MovesWithoutAStep,
+            WritesBesideTheResult, WritesWords, NamePastThePiece, NameWithoutQuotes, StepsPastTheArray,
+            StepsToExtentZero,
+        ];
+        let hostile = [
+            CountWraps, CountCutTo32Bits, AlignmentByWholeDetail, StepsFromExtentZero, KeepsToTheExtent,
+            EntersUnknownKinds, EntersNoLeafKind, PassesNoUnknownKind, KeepsBelowTheEnd, ExtentWraps,
+            NameEndWraps,
+        ];
+        both.into_iter().for_each(|wrong| assert_eq!(stumbles(wrong), (true, true), "{wrong:?}"));
+        hostile.into_iter().for_each(|wrong| assert_eq!(stumbles(wrong), (false, true), "{wrong:?}"));
+        assert_eq!(stumbles(NameOfZero), (true, true), "a block without a label");
+        assert_eq!(stumbles(PlaceOff), (false, false), "its steps are right");
+    });
+}
+
+/// Of the hostile calls many are steps, so that it shows where one is missing.
+#[test]
+fn hostile_words_are_stepped_over() {
+    let mut rng = Rng::new(24);
+    let mut made = walk::Hostile::default();
+    let r = records(b"void @f(i8 %a){%x = load i8, ptr %p, align 1 switch i8 %x, label %b [i8 1, label %c]}");
+    let words = r.expect("accepted").words;
+    (0..10_000).for_each(|_| made.add(walk::hostile(&Model, &mut rng, &words).expect("the model is right")));
+    let walk::Hostile { calls, children, nexts, names } = made;
+    assert_eq!(calls, 80_000);
+    assert!(children > 10_000 && nexts > 5_000 && names > 3_000, "{made:?}");
 }
 
 /// Where the Rust is not asked (M-100) the model judges, in re-reading too.

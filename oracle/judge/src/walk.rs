@@ -3,7 +3,7 @@
 //! stand in the text, zeros behind.
 
 use crate::domain;
-use crate::form::{Form, Token};
+use crate::form::{header, Form, Token};
 use crate::name::{decode_bytes, decode_name, is_name_byte};
 
 /// What a slot among the children may hold.
@@ -238,13 +238,14 @@ impl<'a> Walk<'a> {
         if children < shape.first.len() {
             return Err(wrong("too few children", word));
         }
+        let token = self.form.0.len();
         self.form.word(word);
         for &part in shape.payload {
             self.part(part)?;
         }
         self.number(kind, start)?;
         if kind == 54 {
-            (0..2 * (children - 3)).try_for_each(|_| self.part(Number))?;
+            self.cases(children - shape.first.len())?;
         }
         let return_type = self.at;
         for i in 0..children {
@@ -263,7 +264,19 @@ impl<'a> Walk<'a> {
         if self.at - start != extent {
             return Err(wrong(&format!("{} words in the node", self.at - start), word));
         }
+        // In the form a node is as long as without the counts of switches.
+        self.form.0[token] = Token::Word(header(kind, detail, children, self.form.0.len() - token));
         Ok(())
+    }
+
+    /// M-111: a switch's payload begins with the number of its cases. The Rust has no such word, and neither has the form.
+    fn cases(&mut self, cases: usize) -> Result<(), String> {
+        let at = self.at;
+        let count = self.next()?;
+        if count != cases as u64 {
+            return Err(format!("word {at} ({count:x}): {cases} cases"));
+        }
+        (0..2 * cases).try_for_each(|_| self.part(Number))
     }
 
     /// M-106: what takes a number or has one as its name. The words have them in the text's order.

@@ -2,8 +2,8 @@
 
 use crate::counter::Counter;
 use crate::lexer::{Cursor, Name, Read, Refusal};
+use crate::nodes::{node, Children, Word, NO_NAME};
 use crate::tables::LINKAGES;
-use crate::types::{node, Children};
 
 #[derive(Clone, Debug, PartialEq)]
 pub enum Role {
@@ -17,7 +17,7 @@ pub enum Role {
 pub struct Piece {
     pub role: Role,
     pub length: usize,
-    pub words: Vec<u64>,
+    pub words: Vec<Word>,
     /// The counter behind it (M-106).
     pub counter: u64,
 }
@@ -76,8 +76,7 @@ pub fn block_or_tail(text: &[u8], counter: u64) -> Read<Piece> {
 
 /// What has been read of a block.
 struct Body {
-    /// Zero if none was read.
-    label: u64,
+    label: Word,
     children: Children,
     counter: Counter,
     /// Question 19's place, kept until a terminator shows that this is a block.
@@ -86,7 +85,7 @@ struct Body {
 
 impl Body {
     fn new(counter: u64) -> Body {
-        Body { label: 0, children: Children::default(), counter: Counter(counter), over: None }
+        Body { label: NO_NAME, children: Children::default(), counter: Counter(counter), over: None }
     }
 
     /// A label's name has been read, and the cursor is at its `:`. Behind an instruction there is none.
@@ -100,13 +99,13 @@ impl Body {
 
     /// A statement begins at the cursor: before its first one a block without a label takes its number.
     fn begin(&mut self, c: &Cursor) -> Read<()> {
-        if self.label == 0 && self.children.count == 0 {
+        if self.label == NO_NAME && self.children.count == 0 {
             return self.counter.take(c);
         }
         Ok(())
     }
 
-    fn add(&mut self, c: &Cursor, child: &[u64]) {
+    fn add(&mut self, c: &Cursor, child: &[Word]) {
         self.children.add(child);
         if self.over.is_none() && c.ask_children(self.children.count).is_err() {
             self.over = Some(c.at);
@@ -156,10 +155,10 @@ impl Cursor<'_> {
 
     /// A call without a destination takes a number at its end, unless its own type, its first child,
     /// is void.
-    fn numbered_call(&mut self, body: &mut Body) -> Read<Vec<u64>> {
+    fn numbered_call(&mut self, body: &mut Body) -> Read<Vec<Word>> {
         const VOID: u64 = 1;
-        let call = self.call(0)?;
-        if call[2] >> 56 != VOID {
+        let call = self.call(NO_NAME)?;
+        if call[2].bits() >> 56 != VOID {
             body.counter.take(self)?;
         }
         Ok(call)
@@ -184,7 +183,7 @@ impl Cursor<'_> {
                 name.word()
             } else {
                 counter.take(self)?;
-                0
+                NO_NAME
             };
             let parameter = node(62, u64::from(named), &[name], &Children::of(&[&ty]));
             self.child(children, &parameter)?;

@@ -2,6 +2,7 @@
 
 use crate::body::{block_or_tail, head, Piece, Role};
 use crate::lexer::{Read, Refusal};
+use crate::nodes::bits;
 
 /// 01's limit on a text.
 const LENGTH: usize = 16_777_216;
@@ -69,7 +70,7 @@ impl Records {
         let piece = if self.entries() == 0 { head(rest) } else { block_or_tail(rest, self.counter) };
         let Piece { role, length, words, counter } =
             piece.map_err(|r| Refusal { place: r.place + self.at, ..r })?;
-        self.add(length, &words, self.counter)?;
+        self.add(length, &bits(&words), self.counter)?;
         self.counter = counter;
         Ok(role)
     }

@@ -1,5 +1,7 @@
 //! The text of a piece and the cursor in it.
 
+use crate::nodes::Word;
+
 /// A question's number, and the place where it is answered with no.
 #[derive(Clone, Copy, Debug, PartialEq, Eq)]
 pub struct Refusal {
@@ -18,8 +20,8 @@ pub struct Name {
 }
 
 impl Name {
-    pub fn word(&self) -> u64 {
-        (self.start as u64) << 32 | self.length as u64
+    pub fn word(&self) -> Word {
+        Word::Name((self.start as u64) << 32 | self.length as u64)
     }
 }
 

@@ -9,9 +9,12 @@ pub mod fold;
 pub mod full;
 pub mod lexer;
 pub mod literals;
+pub mod nodes;
 pub mod reread;
 pub mod statements;
+pub mod steps;
 pub mod tables;
+pub mod tree;
 pub mod types;
 pub mod values;
 

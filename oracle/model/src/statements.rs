@@ -1,29 +1,29 @@
 //! Instructions and terminators. Every type and value that stands directly in one has depth 1.
 
 use crate::lexer::{Cursor, Read};
+use crate::nodes::{leaf, node, Children, Word, NO_NAME};
 use crate::tables::*;
-use crate::types::{leaf, node, Children};
 
 fn rank_of(list: &[&str], word: &[u8]) -> Option<u64> {
     list.iter().position(|w| w.as_bytes() == word).map(|i| i as u64)
 }
 
 /// An absent optional number takes no word.
-fn payload(dest: u64, number: Option<u64>) -> Vec<u64> {
-    std::iter::once(dest).chain(number).collect()
+fn payload(dest: Word, number: Option<u64>) -> Vec<Word> {
+    std::iter::once(dest).chain(number.map(Word::Number)).collect()
 }
 
 impl Cursor<'_> {
-    fn ty1(&mut self) -> Read<Vec<u64>> {
+    fn ty1(&mut self) -> Read<Vec<Word>> {
         self.ty(1)
     }
 
-    fn value1(&mut self) -> Read<Vec<u64>> {
+    fn value1(&mut self) -> Read<Vec<Word>> {
         self.value(1)
     }
 
     /// An instruction behind `%dest =`.
-    pub fn value_inst(&mut self, dest: u64) -> Read<Vec<u64>> {
+    pub fn value_inst(&mut self, dest: Word) -> Read<Vec<Word>> {
         self.space();
         let op = self.name()?.bytes;
         if let Some(rank) = rank_of(BIN_OPS, &op) {
@@ -77,7 +77,7 @@ impl Cursor<'_> {
         }
     }
 
-    fn two_values(&mut self, kind: u64, detail: u64, dest: u64) -> Read<Vec<u64>> {
+    fn two_values(&mut self, kind: u64, detail: u64, dest: Word) -> Read<Vec<Word>> {
         let ty = self.ty1()?;
         let left = self.value1()?;
         self.expect(",")?;
@@ -86,14 +86,14 @@ impl Cursor<'_> {
         Ok(node(kind, detail, &[dest], &Children::of(&[&ty, &left, &right])))
     }
 
-    fn one_value(&mut self, kind: u64, dest: u64) -> Read<Vec<u64>> {
+    fn one_value(&mut self, kind: u64, dest: Word) -> Read<Vec<Word>> {
         let ty = self.ty1()?;
         let value = self.value1()?;
         self.trailing()?;
         Ok(node(kind, 0, &[dest], &Children::of(&[&ty, &value])))
     }
 
-    fn conv(&mut self, rank: u64, dest: u64) -> Read<Vec<u64>> {
+    fn conv(&mut self, rank: u64, dest: Word) -> Read<Vec<Word>> {
         self.flags(CONV_FLAGS);
         let from = self.ty1()?;
         let value = self.value1()?;
@@ -103,7 +103,7 @@ impl Cursor<'_> {
         Ok(node(35, rank, &[dest], &Children::of(&[&from, &value, &to])))
     }
 
-    fn select(&mut self, dest: u64) -> Read<Vec<u64>> {
+    fn select(&mut self, dest: Word) -> Read<Vec<Word>> {
         self.ty1()?;
         let condition = self.value1()?;
         self.expect(",")?;
@@ -117,12 +117,12 @@ impl Cursor<'_> {
     }
 
     /// A pointer's type, which is dropped, and its value.
-    fn pointer(&mut self) -> Read<Vec<u64>> {
+    fn pointer(&mut self) -> Read<Vec<Word>> {
         self.ty1()?;
         self.value1()
     }
 
-    fn load(&mut self, dest: u64) -> Read<Vec<u64>> {
+    fn load(&mut self, dest: Word) -> Read<Vec<Word>> {
         let atomic = self.keyword("atomic");
         self.keyword("volatile");
         let ty = self.ty1()?;
@@ -138,7 +138,7 @@ impl Cursor<'_> {
         Ok(node(39, u64::from(align.is_some()), &payload(dest, align), &children))
     }
 
-    pub fn store(&mut self) -> Read<Vec<u64>> {
+    pub fn store(&mut self) -> Read<Vec<Word>> {
         let atomic = self.keyword("atomic");
         self.keyword("volatile");
         let ty = self.ty1()?;
@@ -149,13 +149,13 @@ impl Cursor<'_> {
         if atomic {
             self.ordering()?;
             self.trailing()?;
-            return Ok(node(47, 0, &[0], &children));
+            return Ok(node(47, 0, &[NO_NAME], &children));
         }
         let align = self.trailing()?;
-        Ok(node(40, u64::from(align.is_some()), &payload(0, align), &children))
+        Ok(node(40, u64::from(align.is_some()), &payload(NO_NAME, align), &children))
     }
 
-    fn cmpxchg(&mut self, dest: u64) -> Read<Vec<u64>> {
+    fn cmpxchg(&mut self, dest: Word) -> Read<Vec<Word>> {
         self.keyword("weak");
         self.keyword("volatile");
         let pointer = self.pointer()?;
@@ -172,7 +172,7 @@ impl Cursor<'_> {
     }
 
     /// 02, M-100. The operation is a word as an opcode is; the text has the pointer first, the node the type.
-    fn atomicrmw(&mut self, dest: u64) -> Read<Vec<u64>> {
+    fn atomicrmw(&mut self, dest: Word) -> Read<Vec<Word>> {
         self.keyword("volatile");
         self.space();
         let Some(rank) = rank_of(RMW_OPS, &self.name()?.bytes) else {
@@ -187,20 +187,20 @@ impl Cursor<'_> {
         Ok(node(48, rank, &[dest], &Children::of(&[&ty, &pointer, &value])))
     }
 
-    fn extractvalue(&mut self, dest: u64) -> Read<Vec<u64>> {
+    fn extractvalue(&mut self, dest: Word) -> Read<Vec<Word>> {
         self.ty1()?;
         let aggregate = self.value1()?;
         self.expect(",")?;
         self.space();
         let index = self.number(0, u64::from(u32::MAX))?;
         self.trailing()?;
-        Ok(node(50, 0, &[dest, index], &Children::of(&[&aggregate])))
+        Ok(node(50, 0, &[dest, Word::Number(index)], &Children::of(&[&aggregate])))
     }
 
-    pub fn fence(&mut self) -> Read<Vec<u64>> {
+    pub fn fence(&mut self) -> Read<Vec<Word>> {
         self.ordering()?;
         self.trailing()?;
-        Ok(leaf(51, &[0]))
+        Ok(leaf(51, &[NO_NAME]))
     }
 
     /// An optional scope and an optional ordering, dropped.
@@ -212,7 +212,7 @@ impl Cursor<'_> {
         Ok(())
     }
 
-    fn alloca(&mut self, dest: u64) -> Read<Vec<u64>> {
+    fn alloca(&mut self, dest: Word) -> Read<Vec<Word>> {
         self.keyword("inalloca");
         let ty = self.ty1()?;
         let (mut count, mut align) = (None, None);
@@ -235,7 +235,7 @@ impl Cursor<'_> {
         Ok(node(41, detail, &payload(dest, align), &children))
     }
 
-    fn gep(&mut self, dest: u64) -> Read<Vec<u64>> {
+    fn gep(&mut self, dest: Word) -> Read<Vec<Word>> {
         let inbounds = self.gep_flags()?;
         let base = self.ty1()?;
         self.expect(",")?;
@@ -252,7 +252,7 @@ impl Cursor<'_> {
         Ok(node(42, inbounds, &[dest], &children))
     }
 
-    fn phi(&mut self, dest: u64) -> Read<Vec<u64>> {
+    fn phi(&mut self, dest: Word) -> Read<Vec<Word>> {
         let mut children = Children::of(&[&self.ty1()?]);
         loop {
             self.expect("[")?;
@@ -269,11 +269,11 @@ impl Cursor<'_> {
     }
 
     /// A local name as a child of its own.
-    fn name_child(&mut self) -> Read<Vec<u64>> {
+    fn name_child(&mut self) -> Read<Vec<Word>> {
         Ok(leaf(63, &[self.local_name()?.word()]))
     }
 
-    pub fn call(&mut self, dest: u64) -> Read<Vec<u64>> {
+    pub fn call(&mut self, dest: Word) -> Read<Vec<Word>> {
         self.convention()?;
         self.attributes()?;
         let ret = self.ty1()?;
@@ -359,7 +359,7 @@ impl Cursor<'_> {
 
     // ---- terminators ----
 
-    pub fn ret(&mut self) -> Read<Vec<u64>> {
+    pub fn ret(&mut self) -> Read<Vec<Word>> {
         if self.keyword("void") {
             self.trailing()?;
             return Ok(leaf(52, &[]));
@@ -370,7 +370,7 @@ impl Cursor<'_> {
         Ok(node(52, 1, &[], &Children::of(&[&ty, &value])))
     }
 
-    pub fn br(&mut self) -> Read<Vec<u64>> {
+    pub fn br(&mut self) -> Read<Vec<Word>> {
         if self.keyword("label") {
             let target = self.name_child()?;
             self.trailing()?;
@@ -385,13 +385,14 @@ impl Cursor<'_> {
     }
 
     /// `, label %name`.
-    fn target(&mut self) -> Read<Vec<u64>> {
+    fn target(&mut self) -> Read<Vec<Word>> {
         self.expect(",")?;
         self.expect_keyword("label")?;
         self.name_child()
     }
 
-    pub fn switch(&mut self) -> Read<Vec<u64>> {
+    /// M-111: the payload begins with the number of cases, which may be 0.
+    pub fn switch(&mut self) -> Read<Vec<Word>> {
         let ty = self.ty1()?;
         let value = self.value1()?;
         let default = self.target()?;
@@ -404,24 +405,25 @@ impl Cursor<'_> {
                 break;
             }
             self.ty1()?;
-            cases.extend(self.case()?);
+            cases.push(self.case()?);
             let target = self.target()?;
             self.child(&mut children, &target)?;
         }
         self.trailing()?;
-        Ok(node(54, 0, &cases, &children))
+        let count = Word::Number(cases.len() as u64);
+        Ok(node(54, 0, &[&[count], &cases.concat()[..]].concat(), &children))
     }
 
     /// Question 12: a value that is an integer.
-    fn case(&mut self) -> Read<[u64; 2]> {
+    fn case(&mut self) -> Read<[Word; 2]> {
         let value = self.value1()?;
         match value[..] {
-            [header, high, low] if header >> 56 == 18 => Ok([high, low]),
+            [Word::Header(header), high, low] if header >> 56 == 18 => Ok([high, low]),
             _ => self.refuse(12),
         }
     }
 
-    pub fn unreachable(&mut self) -> Read<Vec<u64>> {
+    pub fn unreachable(&mut self) -> Read<Vec<Word>> {
         self.trailing()?;
         Ok(leaf(55, &[]))
     }

@@ -1,6 +1,7 @@
 //! Types, type lists and attributes.
 
 use crate::lexer::{Cursor, Read};
+use crate::nodes::{leaf, node, Children, Word};
 use crate::tables::{FLAG_ATTRS, PAREN_ATTRS};
 
 /// At most so deep, and so many direct children.
@@ -8,39 +9,6 @@ const DEPTH: usize = 19;
 const CHILDREN: usize = 65_535;
 
 pub const PTR: u64 = 5;
-
-/// A node: header, payload, children.
-pub fn node(kind: u64, detail: u64, payload: &[u64], children: &Children) -> Vec<u64> {
-    let extent = 1 + payload.len() + children.words.len();
-    let mut words = Vec::with_capacity(extent);
-    words.push(kind << 56 | detail << 48 | (children.count as u64) << 32 | extent as u64);
-    words.extend_from_slice(payload);
-    words.extend_from_slice(&children.words);
-    words
-}
-
-pub fn leaf(kind: u64, payload: &[u64]) -> Vec<u64> {
-    node(kind, 0, payload, &Children::default())
-}
-
-/// The children of a node, as they are read.
-#[derive(Clone, Debug, Default)]
-pub struct Children {
-    pub count: usize,
-    pub words: Vec<u64>,
-}
-
-impl Children {
-    pub fn add(&mut self, child: &[u64]) {
-        self.count += 1;
-        self.words.extend_from_slice(child);
-    }
-
-    /// A known few.
-    pub fn of(list: &[&[u64]]) -> Children {
-        Children { count: list.len(), words: list.concat() }
-    }
-}
 
 /// What stands in a type's parentheses.
 pub struct TypeList {
@@ -58,7 +26,7 @@ impl Cursor<'_> {
     }
 
     /// A child is added, then 19 is asked.
-    pub fn child(&self, children: &mut Children, words: &[u64]) -> Read<()> {
+    pub fn child(&self, children: &mut Children, words: &[Word]) -> Read<()> {
         children.add(words);
         self.ask_children(children.count)
     }
@@ -73,7 +41,7 @@ impl Cursor<'_> {
     }
 
     /// A type with its suffixes; passes the space behind it, unless it ends in `addrspace(..)`.
-    pub fn ty(&mut self, depth: usize) -> Read<Vec<u64>> {
+    pub fn ty(&mut self, depth: usize) -> Read<Vec<Word>> {
         self.ask_depth(depth)?;
         let mut ty = self.base_type(depth)?;
         loop {
@@ -100,7 +68,7 @@ impl Cursor<'_> {
         }
     }
 
-    fn base_type(&mut self, depth: usize) -> Read<Vec<u64>> {
+    fn base_type(&mut self, depth: usize) -> Read<Vec<Word>> {
         const WORDS: &[(&str, u64)] =
             &[("void", 1), ("float", 3), ("double", 4), ("ptr", PTR), ("label", 9), ("metadata", 10)];
         for &(word, kind) in WORDS {
@@ -114,7 +82,7 @@ impl Cursor<'_> {
         match self.peek() {
             Some(b'i') => {
                 self.at += 1;
-                Ok(leaf(2, &[self.number(1, 8_388_608)?]))
+                Ok(leaf(2, &[Word::Number(self.number(1, 8_388_608)?)]))
             }
             Some(b'[') => self.array(depth, "]", 0),
             Some(b'{') => self.fields(depth, 0),
@@ -131,18 +99,18 @@ impl Cursor<'_> {
     }
 
     /// From the opening bracket: a length, `x`, the element's type.
-    fn array(&mut self, depth: usize, close: &str, packed: u64) -> Read<Vec<u64>> {
+    fn array(&mut self, depth: usize, close: &str, packed: u64) -> Read<Vec<Word>> {
         self.at += 1;
         self.space();
         let length = self.number(0, u64::MAX)?;
         self.expect_keyword("x")?;
         let element = self.ty(depth + 1)?;
         self.expect(close)?;
-        Ok(node(6, packed, &[length], &Children::of(&[&element])))
+        Ok(node(6, packed, &[Word::Number(length)], &Children::of(&[&element])))
     }
 
     /// From the opening brace.
-    fn fields(&mut self, depth: usize, packed: u64) -> Read<Vec<u64>> {
+    fn fields(&mut self, depth: usize, packed: u64) -> Read<Vec<Word>> {
         self.at += 1;
         let mut fields = Children::default();
         self.space();

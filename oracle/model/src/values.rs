@@ -2,16 +2,16 @@
 
 use crate::lexer::{Cursor, Read};
 use crate::literals::Number;
+use crate::nodes::{leaf, node, Children, Word};
 use crate::tables::{ARITH_FLAGS, BIN_OPS, CONST_CONV_OPS, CONV_OPS};
-use crate::types::{leaf, node, Children};
 
 /// An integer as two words, high first.
-pub fn halves(n: i128) -> [u64; 2] {
-    [(n as u128 >> 64) as u64, n as u128 as u64]
+fn halves(n: i128) -> [Word; 2] {
+    [Word::Number((n as u128 >> 64) as u64), Word::Number(n as u128 as u64)]
 }
 
 impl Cursor<'_> {
-    pub fn value(&mut self, depth: usize) -> Read<Vec<u64>> {
+    pub fn value(&mut self, depth: usize) -> Read<Vec<Word>> {
         self.ask_depth(depth)?;
         match self.peek() {
             Some(b'%') => return Ok(leaf(16, &[self.local_name()?.word()])),
@@ -19,7 +19,7 @@ impl Cursor<'_> {
             Some(b'-' | b'+' | b'0'..=b'9') => {
                 return Ok(match self.numeric()? {
                     Number::Int(n) => leaf(18, &halves(n)),
-                    Number::Float(bits) => leaf(19, &[bits]),
+                    Number::Float(bits) => leaf(19, &[Word::Number(bits)]),
                 });
             }
             _ => {}
@@ -38,7 +38,7 @@ impl Cursor<'_> {
             return Ok(leaf(24, &[self.byte_string()?.word()]));
         }
         if self.eat(b"f0x") {
-            return Ok(leaf(19, &[self.hex_float()?]));
+            return Ok(leaf(19, &[Word::Number(self.hex_float()?)]));
         }
         if self.sees(b"[") {
             return self.aggregate(25, depth, "]");
@@ -56,7 +56,7 @@ impl Cursor<'_> {
     }
 
     /// From the opening bracket: typed values up to the closing one.
-    fn aggregate(&mut self, kind: u64, depth: usize, close: &str) -> Read<Vec<u64>> {
+    fn aggregate(&mut self, kind: u64, depth: usize, close: &str) -> Read<Vec<Word>> {
         self.at += 1;
         let mut list = Children::default();
         self.space();
@@ -80,7 +80,7 @@ impl Cursor<'_> {
         self.child(list, &value)
     }
 
-    fn expression(&mut self, depth: usize) -> Read<Vec<u64>> {
+    fn expression(&mut self, depth: usize) -> Read<Vec<Word>> {
         if self.keyword("getelementptr") {
             return self.const_gep(depth);
         }
@@ -93,7 +93,7 @@ impl Cursor<'_> {
         self.refuse(6)
     }
 
-    fn const_gep(&mut self, depth: usize) -> Read<Vec<u64>> {
+    fn const_gep(&mut self, depth: usize) -> Read<Vec<Word>> {
         let inbounds = self.gep_flags()?;
         self.expect("(")?;
         let mut list = Children::default();
@@ -108,7 +108,7 @@ impl Cursor<'_> {
         Ok(node(27, inbounds, &[], &list))
     }
 
-    fn const_conv(&mut self, rank: u64, depth: usize) -> Read<Vec<u64>> {
+    fn const_conv(&mut self, rank: u64, depth: usize) -> Read<Vec<Word>> {
         let mut list = Children::default();
         self.expect("(")?;
         self.typed(&mut list, depth + 1)?;
@@ -118,7 +118,7 @@ impl Cursor<'_> {
         Ok(node(28, rank, &[], &list))
     }
 
-    fn const_bin(&mut self, rank: u64, depth: usize) -> Read<Vec<u64>> {
+    fn const_bin(&mut self, rank: u64, depth: usize) -> Read<Vec<Word>> {
         let mut list = Children::default();
         self.flags(ARITH_FLAGS);
         self.expect("(")?;

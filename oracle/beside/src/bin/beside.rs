@@ -3,14 +3,17 @@
 //! In place of SEED and COUNT: `--short` takes every short string behind the prefixes, `--bytes` every
 //! edit of one byte of some texts, `--edits SEED COUNT` so many edits, `--values SEED COUNT` so many
 //! types and values, `--numerals SEED COUNT` so many numerals around the limits, `--afternoons SEED COUNT` so
-//! many sequences of edits in the same arrays, and as many with refused calls that were lent what is not theirs.
+//! many sequences of edits in the same arrays, and as many with refused calls that were lent what is not theirs,
+//! `--walk SEED COUNT` so many functions stepped over from node to node, and as many hostile arrays.
 
 use beside::afternoon::{self, Calls};
 use beside::port::{Model, Port};
 use beside::shrink::shrink;
+use beside::walk::{self, Hostile, Met};
 use beside::{big, check, library, long, reread, rooms};
 use judge::{files, hex, left_out, reads_on};
 use model::fold;
+use model::full::records;
 use std::collections::BTreeMap;
 use std::process::ExitCode;
 use texts::numerals::{self, Placed};
@@ -142,6 +145,37 @@ impl Afternoons {
     }
 }
 
+/// What was stepped over (M-111).
+#[derive(Default)]
+struct Walks {
+    functions: u64,
+    /// Of these, functions of clang, as printed or damaged.
+    real: u64,
+    met: Met,
+    hostile: Hostile,
+}
+
+impl Walks {
+    fn add(&mut self, other: Walks) {
+        self.functions += other.functions;
+        self.real += other.real;
+        self.met.add(other.met);
+        self.hostile.add(other.hostile);
+    }
+
+    fn show(&self) -> String {
+        let Walks { functions, real, met, hostile } = self;
+        let Met { walks, nodes, parents, switches, names } = met;
+        let Hostile { calls, children, nexts, names: found } = hostile;
+        let made = children + nexts;
+        format!(
+            "{functions} functions, {real} of them of clang: {walks} walks met {nodes} nodes, each one time; \
+             the children of {parents} nodes, {switches} switches, {names} names\n\
+             {calls} hostile calls: {made} steps made ({children} to a child, {nexts} to the next), {found} names found\n"
+        )
+    }
+}
+
 #[derive(Default)]
 struct Report {
     texts: Answers,
@@ -150,10 +184,11 @@ struct Report {
     altered: Answers,
     numerals: Numerals,
     afternoons: Afternoons,
+    walks: Walks,
     wrong: Vec<String>,
 }
 
-const USAGE: &str = "usage: beside [--model] ([--edits | --values | --numerals | --afternoons] SEED COUNT | --short | --bytes)";
+const USAGE: &str = "usage: beside [--model] ([--edits | --values | --numerals | --afternoons | --walk] SEED COUNT | --short | --bytes)";
 
 /// So many differences are shown; more would be the same ones again.
 const SHOWN: usize = 20;
@@ -294,6 +329,23 @@ impl Report {
         }
     }
 
+    /// The steps over an accepted text, and over an array of hostile words made of its records.
+    fn walk(&mut self, port: &dyn Port, rng: &mut Rng, text: &[u8]) {
+        match walk::function(port, rng, text) {
+            None => return,
+            Some(Ok(met)) => {
+                self.walks.functions += 1;
+                self.walks.met.add(met);
+            }
+            Some(Err(why)) => self.wrong(text, &why),
+        }
+        let words = records(text).map(|r| r.words).unwrap_or_default();
+        match walk::hostile(port, rng, &words) {
+            Ok(hostile) => self.walks.hostile.add(hostile),
+            Err(why) => self.wrong(b"", &why),
+        }
+    }
+
     fn add(&mut self, other: Report) {
         self.texts.add(other.texts);
         self.rooms += other.rooms;
@@ -301,6 +353,7 @@ impl Report {
         self.altered.add(other.altered);
         self.numerals.add(other.numerals);
         self.afternoons.add(other.afternoons);
+        self.walks.add(other.walks);
         self.wrong.extend(other.wrong);
     }
 
@@ -322,6 +375,9 @@ impl Report {
         }
         if self.afternoons.sequences > 0 {
             out.push_str(&self.afternoons.show());
+        }
+        if self.walks.functions > 0 {
+            out.push_str(&self.walks.show());
         }
         out.push_str(&format!("{} differences\n", self.wrong.len()));
         out
@@ -401,6 +457,35 @@ fn afternoons(port: &dyn Port, seed: u64, count: u64) -> Report {
         }
         drawn += 1;
     }
+    report
+}
+
+/// So many functions stepped over, and as many hostile arrays.
+fn walks(port: &dyn Port, seed: u64, count: u64) -> Report {
+    let mut report = Report::default();
+    let mut texts = Texts::new(seed);
+    let mut rng = Rng::new(seed ^ 0x5bd1_e995);
+    let mut drawn: u64 = 0;
+    while report.walks.functions < count && report.wrong.len() < SHOWN {
+        let before = report.walks.functions;
+        let (kind, text) = if drawn % REAL == 0 { texts.real() } else { texts.draw() };
+        report.walk(port, &mut rng, &text);
+        if matches!(kind, Kind::Clang | Kind::ClangMutated) {
+            report.walks.real += report.walks.functions - before;
+        }
+        drawn += 1;
+    }
+    report
+}
+
+/// The functions that every run steps over: each form, all stored ones of clang, those with the most children.
+fn fixed_walks(port: &dyn Port) -> Report {
+    let mut report = Report::default();
+    let mut rng = Rng::new(0);
+    cover::texts().iter().chain(&big::children()).for_each(|text| report.walk(port, &mut rng, text));
+    let before = report.walks.functions;
+    clang::functions().iter().for_each(|text| report.walk(port, &mut rng, text));
+    report.walks.real = report.walks.functions - before;
     report
 }
 
@@ -520,6 +605,13 @@ fn numeral_work(port: &'static dyn Port, seed: u64, count: u64) -> Vec<Work> {
     work
 }
 
+/// Two halves, and the fixed ones.
+fn walk_work(port: &'static dyn Port, seed: u64, count: u64) -> Vec<Work> {
+    let mut work = halves(walks, port, seed, count);
+    work.push(Box::new(move || fixed_walks(port)));
+    work
+}
+
 fn byte_work(port: &'static dyn Port) -> Vec<Work> {
     vec![Box::new(move || half_of_bytes(port, 0)), Box::new(move || half_of_bytes(port, 1))]
 }
@@ -552,6 +644,7 @@ fn start(args: &[&str]) -> Result<bool, String> {
         ["--afternoons", seed, count] => run(halves(afternoons, port, number(seed)?, number(count)?)),
         ["--values", seed, count] => run(halves(values, port, number(seed)?, number(count)?)),
         ["--numerals", seed, count] => run(numeral_work(port, number(seed)?, number(count)?)),
+        ["--walk", seed, count] => run(walk_work(port, number(seed)?, number(count)?)),
         [seed, count] => run(stream_work(port, number(seed)?, number(count)?)),
         _ => Err(USAGE.to_string()),
     }

@@ -1,0 +1,4 @@
+pub mod Views
+pub mod Payloads
+pub mod Moves
+pub mod Bounds

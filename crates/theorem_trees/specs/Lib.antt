@@ -1,0 +1,4 @@
+pub mod Unique
+pub mod Function
+pub mod Walk
+pub mod Names
