@@ -1,5 +1,5 @@
-//! Reads the cue on standard input, a function's text from behind the word `define`, and prints the number of its pieces or the refusal.
-//! Then the same text is read again as an edit of itself, of which at most the tail is read.
+//! Reads the cue on standard input, a function's text from behind the word `define`, and prints the number of its pieces, its name and the
+//! number of its nodes, or the refusal. Then the same text is read again as an edit of itself, of which at most the tail is read.
 //! Exits 0 if the cue is accepted, 1 if it is refused, 2 without a cue.
 //!
 //!     rustc --edition 2021 -L native=target/staticlib -l static=zimlokur examples/rust/cue.rs -o target/cue-rust
@@ -26,6 +26,19 @@ fn take_input() -> Result<Vec<u8>, String> {
     }
 }
 
+/// How many nodes there are: from word 0 to the first child, else to the next node, each is met one time.
+fn count_nodes(words: &[u64]) -> usize {
+    let end = words.len() as u64;
+    let onward = |&at: &u64| zimlokur::child(words, at).or_else(|| zimlokur::next(words, at, end));
+    std::iter::successors(Some(0), onward).count()
+}
+
+/// The function's name as it is written: the head's first payload word, in the text of piece 0.
+fn head_name<'a>(cue: &'a [u8], words: &[u64], directory: &[u64]) -> Option<&'a [u8]> {
+    let length = *directory.first()? as u32 as usize; // the lower half is the piece's length
+    zimlokur::name(cue.get(..length)?, *words.get(1)?)
+}
+
 /// What is printed of the cue; a refusal is the second kind.
 fn read(cue: &[u8]) -> Result<String, String> {
     let mut words = vec![0; 2 * cue.len() + 16];
@@ -35,10 +48,12 @@ fn read(cue: &[u8]) -> Result<String, String> {
         format!("refused {} place {} line {} column {}", refusal.question, refusal.place, at.line, at.column)
     };
     let entries = zimlokur::parse_define(cue, &mut words, &mut directory).map_err(refused)?;
+    let name = String::from_utf8_lossy(head_name(cue, &words, &directory).unwrap_or_default()).into_owned();
+    let nodes = count_nodes(&words);
     let again = zimlokur::reparse_define(cue, cue, &mut words, &mut directory, entries).map_err(refused)?;
     Ok(format!(
-        "pieces {}\nagain: pieces {} first {} read {}",
-        entries, again.entries, again.first, again.read
+        "pieces {}\n@{} has {} nodes\nagain: pieces {} first {} read {}",
+        entries, name, nodes, again.entries, again.first, again.read
     ))
 }
 

@@ -52,6 +52,13 @@ extern "C" {
     ) -> u64;
 
     fn zimlokur_position(text: *const u8, text_len: usize, place: u64, line: *mut u64, column: *mut u64);
+
+    fn zimlokur_child(words: *const u64, words_len: usize, at: u64, to: *mut u64) -> u64;
+
+    fn zimlokur_next(words: *const u64, words_len: usize, at: u64, end: u64, to: *mut u64) -> u64;
+
+    fn zimlokur_name(piece: *const u8, piece_len: usize, name: u64, start: *mut u64, length: *mut u64)
+        -> u64;
 }
 
 /// No question is number 0: it means accepted.
@@ -117,4 +124,29 @@ pub fn position(text: &[u8], place: u64) -> Position {
     // SAFETY: as above.
     unsafe { zimlokur_position(text.as_ptr(), text.len(), place, &mut line, &mut column) };
     Position { line, column }
+}
+
+/// The place of the first child of the node at a place. Any words may be lent, and any place.
+pub fn child(words: &[u64], at: u64) -> Option<u64> {
+    let mut to = 0;
+    // SAFETY: as above.
+    let made = unsafe { zimlokur_child(words.as_ptr(), words.len(), at, &mut to) };
+    (made == 1).then_some(to)
+}
+
+/// The place of the next node behind the one at a place, if it begins below the end.
+pub fn next(words: &[u64], at: u64, end: u64) -> Option<u64> {
+    let mut to = 0;
+    // SAFETY: as above.
+    let made = unsafe { zimlokur_next(words.as_ptr(), words.len(), at, end, &mut to) };
+    (made == 1).then_some(to)
+}
+
+/// The text of a name, by its word: a part of its piece.
+pub fn name(piece: &[u8], word: u64) -> Option<&[u8]> {
+    let (mut start, mut length) = (0, 0);
+    // SAFETY: as above.
+    let found = unsafe { zimlokur_name(piece.as_ptr(), piece.len(), word, &mut start, &mut length) };
+    // the part lies in the piece, so this is none only where nothing was found
+    piece.get(start as usize..(start + length) as usize).filter(|_| found == 1)
 }
