@@ -5,7 +5,7 @@
  * array may be NULL. What is read is said in docs/SCOPE.md, what the words mean in docs/RECORDS.md, what a refusal means in
  * docs/QUESTIONS.md. The promise of each call is proved of the code (crates/zimlokur).
  *
- * The archive libzimlokur.a is for x86-64 Linux. A call needs some 21,000 bytes of stack (20,328 measured at the deepest text).
+ * The archive libzimlokur.a is for x86-64 Linux. A call needs some 21,000 bytes of stack (20,312 measured at the deepest text).
  * For a text of n bytes, n + n/3 words and n/2 + 2 directory words are enough, three of these for each piece; this is argued by hand and
  * measured, not proved. 8n and 3n follow by addition from bounds that are proved, and no theorem states them (docs/RECORDS.md). For a
  * re-reading take the longer text. More room changes nothing but the zeros behind.
