@@ -21,7 +21,7 @@ static int check(struct text cue) {
                         edited};
   struct answer answer = read_stained(cue, bench.kept);
   if (answer.question) {
-    explain_refusal(cue, answer.question, answer.place);
+    explain_refusal(stdout, cue, answer.question, answer.place);
     return STATUS_REFUSED;
   }
   return check_all(cue, &bench, answer.entries) ? STATUS_FINE : STATUS_REFUSED;

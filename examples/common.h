@@ -108,18 +108,18 @@ static inline void list_pieces(struct room room, uint64_t entries) {
 }
 
 /* The line of a program that is given a refusal, as `pieces` prints it. */
-static inline void refusal_line(struct text text, uint64_t question, uint64_t place) {
+static inline void refusal_line(FILE *out, struct text text, uint64_t question, uint64_t place) {
   uint64_t line, column;
   zimlokur_position(text.bytes, text.length, place, &line, &column);
-  printf("refused %" PRIu64 " place %" PRIu64 " line %" PRIu64 " column %" PRIu64 "\n", question, place, line, column);
+  fprintf(out, "refused %" PRIu64 " place %" PRIu64 " line %" PRIu64 " column %" PRIu64 "\n", question, place, line, column);
 }
 
 /* A byte of the source as it is shown: what would move the terminal's cursor is replaced, so that the caret stays under its column. */
-static inline void show_source_byte(uint8_t byte) { putchar(byte == '\t' || (byte >= ' ' && byte <= '~') ? byte : '?'); }
+static inline void show_source_byte(FILE *out, uint8_t byte) { putc(byte == '\t' || (byte >= ' ' && byte <= '~') ? byte : '?', out); }
 
 /* The source line of a place, and a caret below it. Of a line that is very long only the part around the place is shown. A place can be
  * one behind the text's end: the caret goes there too. */
-static inline void show_source(struct text text, uint64_t place) {
+static inline void show_source(FILE *out, struct text text, uint64_t place) {
   enum { BEFORE = 100, BEHIND = 100 };
   size_t at = place < text.length ? (size_t)place : text.length, start = at, end = at;
   while (start > 0 && at - start < BEFORE && text.bytes[start - 1] != '\n')
@@ -127,18 +127,18 @@ static inline void show_source(struct text text, uint64_t place) {
   while (end < text.length && end - at < BEHIND && text.bytes[end] != '\n')
     end++;
   for (size_t k = start; k < end; k++)
-    show_source_byte(text.bytes[k]);
-  putchar('\n');
+    show_source_byte(out, text.bytes[k]);
+  putc('\n', out);
   for (size_t k = start; k < at; k++)
-    putchar(text.bytes[k] == '\t' ? '\t' : ' ');
-  puts(place > text.length ? " ^" : "^");
+    putc(text.bytes[k] == '\t' ? '\t' : ' ', out);
+  fputs(place > text.length ? " ^\n" : "^\n", out);
 }
 
 /* A refusal for people: the line of `pieces`, the source with a caret, and what it means. */
-static inline void explain_refusal(struct text text, uint64_t question, uint64_t place) {
-  refusal_line(text, question, place);
-  show_source(text, place);
-  puts(sentence_of(question));
+static inline void explain_refusal(FILE *out, struct text text, uint64_t question, uint64_t place) {
+  refusal_line(out, text, question, place);
+  show_source(out, text, place);
+  fprintf(out, "%s\n", sentence_of(question));
 }
 
 /* The one line about input that cannot be worked on; gives the status to end with. */

@@ -3,6 +3,7 @@
  * Exits 0 if every function is accepted and, with --check, holds every check; 1 if one does not; 2 without a function.
  * cc -Iinclude examples/desk.c target/staticlib/libzimlokur.a -o target/desk */
 #include "checks.h"
+#include "functions.h"
 
 #include <errno.h>
 
@@ -30,34 +31,6 @@ struct counts {
   size_t functions, accepted, failed, unchecked;
 };
 
-static const char word[] = "define";
-enum { WORD_LENGTH = sizeof word - 1 };
-
-static int is_name_byte(uint8_t byte) {
-  static const char others[] = {'-', '$', '.', '_'};
-  return (byte >= 'a' && byte <= 'z') || (byte >= 'A' && byte <= 'Z') || (byte >= '0' && byte <= '9') ||
-         memchr(others, byte, sizeof others) != NULL;
-}
-
-/* Whether the word stands at `at`, and there a line starts. Longer words that begin so are others, and `define:` is a label of a block. */
-static int is_define(struct text file, size_t at) {
-  size_t behind = at + WORD_LENGTH;
-  if (behind > file.length || memcmp(file.bytes + at, word, WORD_LENGTH) != 0)
-    return 0;
-  if (at > 0 && file.bytes[at - 1] != '\n')
-    return 0;
-  return behind == file.length || (file.bytes[behind] != ':' && !is_name_byte(file.bytes[behind]));
-}
-
-/* The next place from `at` on where the word stands, the file's end if there is none. */
-static size_t next_define(struct text file, size_t at) {
-  while (at < file.length && !is_define(file, at))
-    at++;
-  return at;
-}
-
-static size_t least(size_t left, size_t right) { return left < right ? left : right; }
-
 /* Rooms for a text of that length, without the last word of each array. What is lent is made zero by each reading, so no more than the
  * text can need. */
 static struct bench lend_for(size_t bytes) {
@@ -67,21 +40,6 @@ static struct bench lend_for(size_t bytes) {
                         {fresh_words, CHECK_WORDS - 1, fresh_directory, CHECK_DIRECTORY - 1},
                         edited};
   return bench;
-}
-
-/* What stands between two functions is not the first one's fault: where a byte above 127 refuses, the text before that byte may hold the
- * whole function. */
-static struct answer read_function(struct text *text, struct room room) {
-  struct answer answer = read_stained(*text, room);
-  struct text before = {text->bytes, (size_t)answer.place};
-  struct answer shorter;
-  if (answer.question != ZIMLOKUR_Q_ASCII)
-    return answer;
-  shorter = read_stained(before, room);
-  if (shorter.question != 0)
-    return answer;
-  *text = before;
-  return shorter;
 }
 
 /* The name that the head's first payload word names: its start is counted from the piece, which begins with the text. */
@@ -111,13 +69,13 @@ static void show_function(struct text file, size_t at, struct text name) {
   zimlokur_position(file.bytes, file.length, at, &line, &column);
   printf("line %" PRIu64 " @", line);
   for (size_t k = 0; k < name.length; k++)
-    show_source_byte(name.bytes[k]);
+    show_source_byte(stdout, name.bytes[k]);
   putchar('\n');
 }
 
 /* A refusal in the file's own places. */
 static void show_refusal(struct text file, struct text text, struct answer answer) {
-  explain_refusal(file, answer.question, (uint64_t)(text.bytes - file.bytes) + answer.place);
+  explain_refusal(stdout, file, answer.question, (uint64_t)(text.bytes - file.bytes) + answer.place);
   if (answer.question == ZIMLOKUR_Q_WORDS || answer.question == ZIMLOKUR_Q_ENTRIES)
     printf("This program lends at most %d words and %d directory words.\n", WORDS - 1, DIRECTORY_WORDS - 1);
 }
@@ -135,9 +93,9 @@ static void check_function(struct text text, const struct bench *bench, uint64_t
 
 /* The function whose text begins behind the word at `at`. */
 static void show_one(struct text file, size_t at, size_t end, int check, struct counts *counts) {
-  struct text text = {file.bytes + at + WORD_LENGTH, end - at - WORD_LENGTH};
+  struct text text = behind_define(file, at, end);
   struct bench bench = lend_for(text.length);
-  struct answer answer = read_function(&text, bench.kept);
+  struct answer answer = read_function(&text, bench.kept, read_stained);
   counts->functions++;
   if (answer.question) {
     show_function(file, at, name_in_line(text));
@@ -156,7 +114,7 @@ static void show_one(struct text file, size_t at, size_t end, int check, struct 
 static int show_file(struct text file, const char *name, int check) {
   struct counts counts = {0, 0, 0, 0};
   for (size_t at = next_define(file, 0), end; at < file.length; at = end) {
-    end = next_define(file, at + WORD_LENGTH);
+    end = next_define(file, at + DEFINE_LENGTH);
     show_one(file, at, end, check, &counts);
   }
   if (counts.functions == 0)

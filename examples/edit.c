@@ -25,7 +25,7 @@ static uint64_t edits_of(struct text last, struct room room, uint64_t entries, s
     struct text newer = text_at(start, length);
     struct edit edit = reread_text(last, newer, room, entries);
     if (edit.answer.question) {
-      refusal_line(newer, edit.answer.question, edit.answer.place);
+      refusal_line(stdout, newer, edit.answer.question, edit.answer.place);
     } else {
       printf("first %" PRIu64 " read %" PRIu64 "\n", edit.first, edit.read);
       last = newer;
@@ -42,7 +42,7 @@ static void afternoon(size_t length) {
   struct answer answer = read_text(first, room);
   if (answer.question) {
     printf("older ");
-    refusal_line(first, answer.question, answer.place);
+    refusal_line(stdout, first, answer.question, answer.place);
     return;
   }
   list_pieces(room, edits_of(first, room, answer.entries, length));

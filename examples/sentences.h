@@ -29,6 +29,7 @@ static inline const char *sentence_of(uint64_t question) {
       [ZIMLOKUR_Q_ENTRIES] = "The text up to here has more pieces than the directory lent has room for.",
       [ZIMLOKUR_Q_OLDER] = "The older records are not such as a reading leaves: read the whole text anew.",
       [ZIMLOKUR_Q_COUNTER] = "The number that belongs here is below the next free one or not below 2^32, or a label stands behind an instruction.",
+      [ZIMLOKUR_Q_OUTPUT] = "What would be written is longer than the room for it, or than 16,777,216 bytes.",
   };
   if (question >= sizeof sentences / sizeof *sentences || !sentences[question])
     return "This number is no question's.";

@@ -455,7 +455,7 @@ static int show(struct text cue) {
   struct room room = {words, WORDS, directory, DIRECTORY_WORDS};
   struct answer answer = read_text(cue, room);
   if (answer.question) {
-    explain_refusal(cue, answer.question, answer.place);
+    explain_refusal(stdout, cue, answer.question, answer.place);
     return STATUS_REFUSED;
   }
   return show_pieces(cue, room, answer.entries);

@@ -44,7 +44,8 @@ enum zimlokur_question {
     ZIMLOKUR_Q_WORDS = 20,
     ZIMLOKUR_Q_ENTRIES = 21,
     ZIMLOKUR_Q_OLDER = 22,
-    ZIMLOKUR_Q_COUNTER = 26
+    ZIMLOKUR_Q_COUNTER = 26,
+    ZIMLOKUR_Q_OUTPUT = 27
 };
 
 /* How deep types and values nest at most: question 16 refuses what stands deeper. A tree has at most three nodes above them.
@@ -220,6 +221,21 @@ uint64_t zimlokur_next(const uint64_t *words, size_t words_len, uint64_t at, uin
  * Answer, *start and *length are those of the definition `partOf`.
  */
 uint64_t zimlokur_name(const uint8_t *piece, size_t piece_len, uint64_t name, uint64_t *start, uint64_t *length);
+
+/* The block map of a function: a DOT digraph for Graphviz, from the text and the records that its reading left (`entries` as that call gave
+ * it). Lines ended by a line feed: `digraph {`; then `"x"` for each block in order; then `"x" -> "y"` for each target, block by block, of `br`
+ * the true one before the false one, of `switch` the default before the cases, repeats kept; then `}`. A name is its bytes, quotes and
+ * escapes undone; a quote, a backslash and each byte outside 32 to 126 become two backslashes and two capital hexadecimal digits. A block
+ * without a label has its number (docs/RECORDS.md, "Numbers").
+ * Returns 0: *length is the number of bytes of the map, which stands in map with zeros behind it.
+ * Returns ZIMLOKUR_Q_OUTPUT (27), with 0 in *length, where the map is longer than map_len or than 16,777,216 bytes: map is zeros.
+ * *place is 0. The map of m bytes fits m bytes; a block's name is written again for each of its targets, so no multiple of the text's length
+ *   is always enough: where 27 comes back with less than 16,777,216 bytes lent, lend more.
+ * Any records may be lent: nothing undefined happens, nothing but map, *place and *length is written, and the work grows no faster than the
+ *   words, directory and text lent, and the map up to its limit. Return value, map and *length are those of the definition `blockMap`.
+ */
+uint64_t zimlokur_block_map(const uint8_t *text, size_t text_len, const uint64_t *words, size_t words_len, const uint64_t *directory,
+                            size_t directory_len, uint64_t entries, uint8_t *map, size_t map_len, uint64_t *place, uint64_t *length);
 
 #ifdef __cplusplus
 }

@@ -1,5 +1,6 @@
-//! Reads the cue on standard input, a function's text from behind the word `define`, and prints the number of its pieces, its name and the
-//! number of its nodes, or the refusal. Then the same text is read again as an edit of itself, of which at most the tail is read.
+//! Reads the cue on standard input, a function's text from behind the word `define`, and prints the number of its pieces, its name, the
+//! number of its nodes, and how many edges its block map has, or the refusal. Then the same text is read again as an edit of itself, of which
+//! at most the tail is read.
 //! Exits 0 if the cue is accepted, 1 if it is refused, 2 without a cue.
 //!
 //!     rustc --edition 2021 -L native=target/staticlib -l static=zimlokur examples/rust/cue.rs -o target/cue-rust
@@ -12,6 +13,9 @@ use std::io::{self, Read, Write};
 use std::process::ExitCode;
 
 const MOST_BYTES: usize = 65_536;
+
+/// As long as a block map may be.
+const MOST_MAP_BYTES: usize = 16_777_216;
 
 /// The cue, or the one line that says why there is none.
 fn take_input() -> Result<Vec<u8>, String> {
@@ -39,6 +43,11 @@ fn head_name<'a>(cue: &'a [u8], words: &[u64], directory: &[u64]) -> Option<&'a 
     zimlokur::name(cue.get(..length)?, *words.get(1)?)
 }
 
+/// How many edges a block map has: no name in it has a quote or a line feed, so only edge lines have an arrow between quotes.
+fn count_edges(map: &[u8]) -> usize {
+    map.split(|&byte| byte == b'\n').filter(|line| line.windows(6).any(|part| part == b"\" -> \"")).count()
+}
+
 /// What is printed of the cue; a refusal is the second kind.
 fn read(cue: &[u8]) -> Result<String, String> {
     let mut words = vec![0; 2 * cue.len() + 16];
@@ -50,10 +59,13 @@ fn read(cue: &[u8]) -> Result<String, String> {
     let entries = zimlokur::parse_define(cue, &mut words, &mut directory).map_err(refused)?;
     let name = String::from_utf8_lossy(head_name(cue, &words, &directory).unwrap_or_default()).into_owned();
     let nodes = count_nodes(&words);
+    let mut map = vec![0; MOST_MAP_BYTES];
+    let map = zimlokur::block_map(cue, &words, &directory, entries, &mut map).map_err(refused)?;
+    let edges = count_edges(map);
     let again = zimlokur::reparse_define(cue, cue, &mut words, &mut directory, entries).map_err(refused)?;
     Ok(format!(
-        "pieces {}\n@{} has {} nodes\nagain: pieces {} first {} read {}",
-        entries, name, nodes, again.entries, again.first, again.read
+        "pieces {}\n@{} has {} nodes\nits map has {} edges\nagain: pieces {} first {} read {}",
+        entries, name, nodes, edges, again.entries, again.first, again.read
     ))
 }
 

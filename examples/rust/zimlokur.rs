@@ -59,6 +59,20 @@ extern "C" {
 
     fn zimlokur_name(piece: *const u8, piece_len: usize, name: u64, start: *mut u64, length: *mut u64)
         -> u64;
+
+    fn zimlokur_block_map(
+        text: *const u8,
+        text_len: usize,
+        words: *const u64,
+        words_len: usize,
+        directory: *const u64,
+        directory_len: usize,
+        entries: u64,
+        map: *mut u8,
+        map_len: usize,
+        place: *mut u64,
+        length: *mut u64,
+    ) -> u64;
 }
 
 /// No question is number 0: it means accepted.
@@ -149,4 +163,33 @@ pub fn name(piece: &[u8], word: u64) -> Option<&[u8]> {
     let found = unsafe { zimlokur_name(piece.as_ptr(), piece.len(), word, &mut start, &mut length) };
     // the part lies in the piece, so this is none only where nothing was found
     piece.get(start as usize..(start + length) as usize).filter(|_| found == 1)
+}
+
+/// The block map of a function for Graphviz, written into a buffer: the part of the buffer that has it. Text, records and count are those of
+/// an accepted reading; any others may be lent, too. Refused with 27 where the map is longer than the buffer, or than 16,777,216 bytes.
+pub fn block_map<'a>(
+    text: &[u8],
+    words: &[u64],
+    directory: &[u64],
+    entries: u64,
+    map: &'a mut [u8],
+) -> Result<&'a [u8], Refusal> {
+    let (mut place, mut length) = (0, 0);
+    // SAFETY: as above.
+    let question = unsafe {
+        zimlokur_block_map(
+            text.as_ptr(),
+            text.len(),
+            words.as_ptr(),
+            words.len(),
+            directory.as_ptr(),
+            directory.len(),
+            entries,
+            map.as_mut_ptr(),
+            map.len(),
+            &mut place,
+            &mut length,
+        )
+    };
+    answer(question, place, &map[..length as usize])
 }

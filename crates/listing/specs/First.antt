@@ -12,7 +12,8 @@ use Rattle.records.specs.Pieces.{left, count}
 use Rattle.grammar.specs.Function.{readingOf}
 use Rattle.grammar.specs.Readings.{answer}
 use Rattle.theorem_edits.specs.Room.{more-room}
-use Rattle.listing.specs.Lines.{digitsIn, decimal, field, pieceLine, pieceLines, wordsEnd, listing, printedOf, printed}
+use Rattle.printing.specs.Decimal.{digitsIn, decimal}
+use Rattle.listing.specs.Lines.{field, pieceLine, pieceLines, wordsEnd, listing, printedOf, printed}
 
 abbrev text : List ℕ
 text = bytes "void @f(){ret void}"

@@ -1,23 +1,13 @@
 -- What the program `pieces` prints of a text: a listing of its pieces, or its refusal, byte by byte. 01: "Known readings".
 -- Assumes nothing.
 use mathlib.Core.List.{List, [], _∷_, _++_}
-use Prim.Native.Nat.{ℕ, zero, suc, _+_, _/_, _%_}
-use lib.Dec.{ltb}
-use Rattle.program.specs.Bytes.{bytes, byte}
-use Rattle.program.specs.Choice.{test}
+use Prim.Native.Nat.{ℕ, zero, suc, _+_}
+use Rattle.program.specs.Bytes.{bytes}
 use Rattle.records.specs.Words.{hi, lo}
 use Rattle.records.specs.Pieces.{Left, left, count, refusedAt}
 use Rattle.grammar.specs.Function.{readingOf}
 use Rattle.lines.specs.Place.{positionOf}
-
--- a number in decimal, of at most u digits more, in front of what is there
-unfoldable pub digitsIn : ℕ → ℕ → List ℕ → List ℕ
-digitsIn zero n acc = acc
-digitsIn (suc u) n acc = test (ltb n 10) (λ _. (byte "0" + n) ∷ acc) (λ _. digitsIn u (n / 10) ((byte "0" + n % 10) ∷ acc))
-
--- a number of 64 bits has at most 20 digits
-unfoldable pub decimal : ℕ → List ℕ
-decimal n = digitsIn 20 n []
+use Rattle.printing.specs.Decimal.{decimal}
 
 unfoldable pub field : ℕ → List ℕ
 field n = bytes " " ++ decimal n

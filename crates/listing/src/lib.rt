@@ -1,74 +1,9 @@
 // What the programs print: a listing of pieces, a refusal, made in a lent buffer.
+use printing::put_all;
+use printing::put_decimal;
 ghost use mathlib.Core.Path.{_≡_};
-ghost use lib.ListN.{set, drop};
-ghost use Rattle.lexer.specs.Step.{bumped};
-ghost use Rattle.listing.specs.Stored.{Stores};
-ghost use Rattle.listing.specs.Lines.{decimal, field, pieceLine, pieceLines, wordsEnd, listing, refusalLine};
-
-// A byte, where there is room; the next place.
-fn put(out: &mut [u8], at: usize, b: u8) -> usize
-    ensures { λ r. ⌜ (r ≡ bumped at) × (now (out .exit) ≡ set (now (out .entry)) at b) ⌝ }
-{
-    if at < out.len() {
-        out[at] = b;
-        return lexer::bump(at);
-    }
-    lexer::bump(at)
-}
-
-// Bytes from one of them on, as far as there is room; the place behind them.
-fn put_from(out: &mut [u8], at: usize, bytes: &[u8], from: usize) -> usize
-    ensures { λ r. ⌜ Stores (drop from (now (bytes .entry))) at (now (out .entry)) r (now (out .exit)) ⌝ }
-{
-    let mut k = at;
-    let mut i = from;
-    while i < bytes.len() {
-        let b = bytes[i];
-        k = put(out, k, b);
-        i += 1;
-    }
-    k
-}
-
-// Bytes, as far as there is room; the place behind them.
-fn put_all(out: &mut [u8], at: usize, bytes: &[u8]) -> usize
-    ensures { λ r. ⌜ Stores (now (bytes .entry)) at (now (out .entry)) r (now (out .exit)) ⌝ }
-{
-    put_from(out, at, bytes, 0)
-}
-
-// A number's digits, which stand from `from` on.
-struct Digits {
-    bytes: [u8; 20],
-    from: usize,
-}
-
-// They are made from the last on.
-fn digits_of(n: u64) -> Digits
-    ensures { λ r. ⌜ drop (r .from) (r .bytes) ≡ decimal n ⌝ }
-{
-    let mut bytes = [0u8; 20];
-    let mut from: usize = 20;
-    let mut m = n;
-    while 0 < from {
-        from -= 1;
-        bytes[from] = b'0' + (m % 10) as u8;
-        if m < 10 {
-            return Digits { bytes, from };
-        }
-        m = m / 10;
-    }
-    Digits { bytes, from }
-}
-
-// A number in decimal.
-fn put_decimal(out: &mut [u8], at: usize, n: u64) -> usize
-    ensures { λ r. ⌜ Stores (decimal n) at (now (out .entry)) r (now (out .exit)) ⌝ }
-{
-    let d = digits_of(n);
-    let bytes = d.bytes;
-    put_from(out, at, &bytes, d.from)
-}
+ghost use Rattle.printing.specs.Stored.{Stores};
+ghost use Rattle.listing.specs.Lines.{field, pieceLine, pieceLines, wordsEnd, listing, refusalLine};
 
 // A space and a number.
 fn put_field(out: &mut [u8], at: usize, n: u64) -> usize

@@ -3,7 +3,7 @@ use reading::Answer;
 ghost use lib.ListN.{length};
 ghost use Rattle.grammar.specs.Function.{readingOf};
 ghost use Rattle.listing.specs.Lines.{printedOf};
-ghost use Rattle.listing.specs.Stored.{Stores};
+ghost use Rattle.printing.specs.Stored.{Stores};
 
 // The longest text it takes.
 const MOST: usize = 65536;

@@ -6,3 +6,4 @@ pub mod Questions
 pub mod Pieces
 pub mod Piece
 pub mod Edits
+pub mod Entries

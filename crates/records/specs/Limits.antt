@@ -2,7 +2,7 @@
 -- Assumes nothing.
 use Prim.Native.Nat.{ℕ, _+_, _-_}
 
--- question 1: the most bytes of a text
+-- questions 1 and 27: the most bytes of a text, be it read or written
 abbrev pub textLimit : ℕ
 textLimit = 16777216
 

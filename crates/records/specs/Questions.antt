@@ -80,3 +80,7 @@ qEntries = 21
 -- 2^32?
 abbrev pub qOlder : ℕ
 qOlder = 22
+
+-- Writing a text into a lent buffer, place 0 (M-109; "27: the text is longer than the lent buffer or 16,777,216 bytes"):
+abbrev pub qOutput : ℕ  -- Has the text at most as many bytes as the buffer, and at most 16,777,216?
+qOutput = 27

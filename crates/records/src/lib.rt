@@ -188,8 +188,10 @@ pub const Q_OLDER: u64 = 22;
 
 pub const Q_COUNTER: u64 = 26;
 
+pub const Q_OUTPUT: u64 = 27;
+
 // Limits.
-pub const TEXT_LIMIT: usize = 16777216; // question 1: the most bytes of a text
+pub const TEXT_LIMIT: usize = 16777216; // questions 1 and 27: the most bytes of a text, be it read or written
 
 pub const BYTE_LIMIT: u8 = 127; // question 2: the largest byte
 

@@ -16,14 +16,14 @@ ghost use Rattle.names.specs.Names.{part, isQuoted, inner, rawWord, spelledOf, 
 const BACKSLASH: u16 = b'\\' as u16;
 
 // Does the word begin with a quote?
-fn is_quoted(raw: &[u8]) -> bool
+pub fn is_quoted(raw: &[u8]) -> bool
     ensures { λ r. ⌜ r ≡ isQuoted (now (raw .entry)) ⌝ }
 {
     if 0 < raw.len() { raw[0] == b'"' } else { false }
 }
 
 // What stands between quotes.
-fn between(raw: &[u8]) -> &[u8]
+pub fn between(raw: &[u8]) -> &[u8]
     ensures { λ r. ⌜ now r ≡ inner (now (raw .entry)) ⌝ }
 {
     let n = raw.len();
@@ -88,7 +88,7 @@ fn escaped(classes: &[u8; 256], w: &[u8], at: usize) -> Letter
 }
 
 // The next byte of a word, escapes undone where it was quoted.
-fn next_letter(classes: &[u8; 256], w: &[u8], q: bool, at: usize) -> Letter
+pub fn next_letter(classes: &[u8; 256], w: &[u8], q: bool, at: usize) -> Letter
     requires { ⌜ Classes (now classes) ⌝ }
     ensures { λ r. ⌜ LetterAt q (now (w .entry)) at r ⌝ }
 {

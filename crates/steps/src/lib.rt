@@ -45,6 +45,12 @@ pub fn detail_in(header: u64) -> u8
     (header / records::DETAIL_UNIT % DETAILS) as u8
 }
 
+pub fn children_in(header: u64) -> u16
+    ensures { λ r. ⌜ r ≡ childrenIn header ⌝ }
+{
+    (header / records::HALF % COUNTS) as u16
+}
+
 fn has_children(header: u64) -> bool
     ensures { λ r. ⌜ r ≡ ltb 0 (childrenIn header) ⌝ }
 {

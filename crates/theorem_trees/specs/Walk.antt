@@ -84,9 +84,13 @@ module _ (ws : List ℕ) (at : ℕ) (k : Kind) (d : ℕ) (p : List ℕ) (cs : Tr
   unfolding node h
   word = word-at ws at h ((p ++ treeWords cs) ++ r) here
 
-  extent : extentIn (wordAt ws at) ≡ suc (length (p ++ treeWords cs))
+  pub extent : extentIn (wordAt ws at) ≡ suc (length (p ++ treeWords cs))
   unfolding h
   extent = rw word (extent-in (kind k) d (howMany cs) (suc (length (p ++ treeWords cs))) (low .0) (low .1) small)
+
+  pub kind-here : kindIn (wordAt ws at) ≡ kind k
+  unfolding h
+  kind-here = rw word (kind-in (kind k) d (howMany cs) (suc (length (p ++ treeWords cs))) (low .0) (low .1) small)
 
   is-header : isHeader (wordAt ws at) ≡ true
   is-header = rw extent (lt-ltb 0 (suc (length (p ++ treeWords cs))) (omega arith))
@@ -128,7 +132,7 @@ module _ (ws : List ℕ) (at : ℕ) (k : Kind) (d : ℕ) (p : List ℕ) (cs : Tr
       let e : at + (1 + length p + length (treeWords cs)) ≡ at + (1 + length p) + length (treeWords cs) = omega arith in
       rw e (drop-past ws (at + (1 + length p)) (treeWords cs) r children-from)
 
-  children : childrenIn (wordAt ws at) ≡ howMany cs
+  pub children : childrenIn (wordAt ws at) ≡ howMany cs
   unfolding h
   children = rw word (children-in (kind k) d (howMany cs) (suc (length (p ++ treeWords cs))) (low .0) (low .1) small)
 
@@ -139,8 +143,7 @@ module _ (ws : List ℕ) (at : ℕ) (k : Kind) (d : ℕ) (p : List ℕ) (cs : Tr
   a-child : 0 < howMany cs → childOf ws at ≡ stepTo ws (at + (1 + length p))
   unfolding childOf h
   a-child l =
-      let q : kindOf (kindIn (wordAt ws at)) ≡ some k =
-      rw word (ap kindOf (kind-in (kind k) d (howMany cs) (suc (length (p ++ treeWords cs))) (low .0) (low .1) small) ∙ kind-of k) in
+      let q : kindOf (kindIn (wordAt ws at)) ≡ some k = ap kindOf kind-here ∙ kind-of k in
       let t : ltb 0 (howMany cs) ≡ true = lt-ltb 0 (howMany cs) l in
       rw (childOf, is-header, children, t, q, behind-payload)
 
@@ -287,7 +290,7 @@ places-rise at (tree k d p cs ts) =
     (omega arith, rw (← z) (rising-behind (suc at) b (b + length T) (places (at + (1 + length p)) cs) (places b ts) (rw e at below) behind))
 
 -- Child and next, of one parent. A node's first child stands behind its payload, and the next one behind each; below the parent's end that is all.
-abbrev firstOf : (at : ℕ) → Trees → Option ℕ
+abbrev pub firstOf : (at : ℕ) → Trees → Option ℕ
 firstOf at empty = none
 firstOf at (tree k d p cs ts) = some at
 

@@ -2,3 +2,4 @@ pub mod Report
 pub mod Zero
 pub mod Afternoon
 pub mod Walk
+pub mod Map

@@ -3,8 +3,10 @@
 use mathlib.Core.List.{List}
 use mathlib.Core.Option.{Option, none, some}
 use Prim.Native.Nat.{ℕ}
+use Rattle.records.specs.Questions.{qOutput}
 use Rattle.records.specs.Pieces.{Answer, refusedAt, count, Left, left, Again, again-left}
 use Rattle.trees.specs.Steps.{Part, part}
+use Rattle.maps.specs.Buffer.{Outcome, drawn, too-long}
 
 -- the question that refuses, or 0; the place, 0 where it is accepted; the entry count, 0 where it is refused
 abbrev pub questionOf : Answer → ℕ
@@ -36,3 +38,8 @@ pub data ReportsStep : Option ℕ → (at r to : ℕ) → Type 0 where
 pub data ReportsPart : Option Part → (r start length : ℕ) → Type 0 where
   found : {start length : ℕ} → ReportsPart (some (part start length)) 1 start length
   no-part : ReportsPart none 0 0 0
+
+-- A map: 0, place 0 and how many bytes it has; or 27, place 0, and 0; and the buffer.
+pub data ReportsMap : Outcome → (r place length : ℕ) (map : List ℕ) → Type 0 where
+  mapped : {length : ℕ} {map : List ℕ} → ReportsMap (drawn length map) 0 0 length map
+  no-map : {map : List ℕ} → ReportsMap (too-long map) qOutput 0 0 map

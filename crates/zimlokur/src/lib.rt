@@ -1,4 +1,5 @@
 // The calls for firmware and test benches, with C's prototypes in include/zimlokur.h.
+use maps::Drawn;
 use reading::Answer;
 use reading::Reread;
 use steps::Step;
@@ -8,7 +9,8 @@ ghost use lib.ListN.{length};
 ghost use Rattle.grammar.specs.Function.{readingOf, rereadingOf};
 ghost use Rattle.lines.specs.Place.{positionOf};
 ghost use Rattle.trees.specs.Steps.{childOf, nextOf, partOf};
-ghost use Rattle.zimlokur.specs.Report.{Reports, ReportsAgain, ReportsStep, ReportsPart};
+ghost use Rattle.maps.specs.Buffer.{blockMap};
+ghost use Rattle.zimlokur.specs.Report.{Reports, ReportsAgain, ReportsStep, ReportsPart, ReportsMap};
 
 // The full reading. Returns 0, or the number of the question that refuses; then both arrays are zero.
 #[no_mangle]
@@ -127,6 +129,33 @@ pub extern "C" fn zimlokur_name(piece: &[u8], name: u64, start: &mut u64, len: &
             *start = 0;
             *len = 0;
             0
+        }
+    }
+}
+
+// The block map, from what a reading left and its text. Returns 0 with how many bytes the map has, or 27 with 0; then the buffer is zero.
+#[no_mangle]
+pub extern "C" fn zimlokur_block_map(
+    text: &[u8],
+    words: &[u64],
+    directory: &[u64],
+    entries: u64,
+    map: &mut [u8],
+    place: &mut u64,
+    len: &mut u64,
+) -> u64
+    ensures { λ r. ⌜ ReportsMap (blockMap (length (now (map .entry))) entries (now (text .entry)) (now (words .entry)) (now (directory .entry))) r (now (place .exit)) (now (len .exit)) (now (map .exit)) ⌝ }
+{
+    match maps::block_map(text, words, directory, entries as usize, map) {
+        Drawn::Map(n) => {
+            *place = 0;
+            *len = n as u64;
+            0
+        }
+        Drawn::TooLong => {
+            *place = 0;
+            *len = 0;
+            records::Q_OUTPUT
         }
     }
 }

@@ -1,4 +1,4 @@
-//! Arrays to lend and places of results, with guards on both sides that no reader may touch.
+//! Arrays and buffers to lend and places of results, with guards on both sides that no reader may touch.
 
 const GUARD: u64 = 0xdead_beef_dead_beef;
 const GUARDS: usize = 8;
@@ -56,5 +56,38 @@ impl Lent {
     pub fn guarded(&self) -> bool {
         let end = self.0.len() - GUARDS;
         self.0[..GUARDS].iter().chain(&self.0[end..]).all(|&w| w == GUARD)
+    }
+}
+
+/// A buffer of bytes.
+#[derive(Clone, Debug)]
+pub struct LentBytes(Vec<u8>);
+
+const GUARD_BYTE: u8 = 0xd7;
+const GUARD_BYTES: usize = 64;
+
+impl LentBytes {
+    /// So many bytes of garbage.
+    pub fn garbage(length: usize) -> LentBytes {
+        LentBytes::holding(&vec![GARBAGE as u8; length])
+    }
+
+    pub fn holding(bytes: &[u8]) -> LentBytes {
+        let guard = [GUARD_BYTE; GUARD_BYTES];
+        LentBytes([&guard, bytes, &guard].concat())
+    }
+
+    pub fn bytes(&self) -> &[u8] {
+        &self.0[GUARD_BYTES..self.0.len() - GUARD_BYTES]
+    }
+
+    pub fn bytes_mut(&mut self) -> &mut [u8] {
+        let end = self.0.len() - GUARD_BYTES;
+        &mut self.0[GUARD_BYTES..end]
+    }
+
+    pub fn guarded(&self) -> bool {
+        let end = self.0.len() - GUARD_BYTES;
+        self.0[..GUARD_BYTES].iter().chain(&self.0[end..]).all(|&b| b == GUARD_BYTE)
     }
 }

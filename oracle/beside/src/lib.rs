@@ -4,9 +4,11 @@
 pub mod afternoon;
 pub mod big;
 pub mod check;
+pub mod dot;
 pub mod lent;
 pub mod llvm;
 pub mod long;
+pub mod map;
 pub mod port;
 pub mod reread;
 pub mod rooms;

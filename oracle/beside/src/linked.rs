@@ -2,7 +2,7 @@
 //! numbers and slices, and every result is compared.
 
 use crate::lent::UNSET;
-use crate::port::{Parsed, Port, Reparsed};
+use crate::port::{Function, Parsed, Port, Reparsed};
 
 extern "C" {
     fn zimlokur_parse_define(
@@ -41,6 +41,20 @@ extern "C" {
 
     fn zimlokur_name(piece: *const u8, piece_len: usize, name: u64, start: *mut u64, length: *mut u64)
         -> u64;
+
+    fn zimlokur_block_map(
+        text: *const u8,
+        text_len: usize,
+        words: *const u64,
+        words_len: usize,
+        directory: *const u64,
+        directory_len: usize,
+        entries: u64,
+        map: *mut u8,
+        map_len: usize,
+        place: *mut u64,
+        length: *mut u64,
+    ) -> u64;
 }
 
 pub struct Library;
@@ -119,5 +133,24 @@ impl Port for Library {
 
     fn name(&self, piece: &[u8], name: u64, start: &mut u64, length: &mut u64) -> u64 {
         unsafe { zimlokur_name(piece.as_ptr(), piece.len(), name, start, length) }
+    }
+
+    fn block_map(&self, of: Function, map: &mut [u8], place: &mut u64, length: &mut u64) -> u64 {
+        let Function { text, words, directory, entries } = of;
+        unsafe {
+            zimlokur_block_map(
+                text.as_ptr(),
+                text.len(),
+                words.as_ptr(),
+                words.len(),
+                directory.as_ptr(),
+                directory.len(),
+                entries,
+                map.as_mut_ptr(),
+                map.len(),
+                place,
+                length,
+            )
+        }
     }
 }

@@ -1,7 +1,7 @@
 //! The calls of the static library, as a trait: the library itself, the model, and wrong readers
 //! to try the comparison on.
 
-use model::steps;
+use model::{map, steps};
 
 /// `zimlokur_parse_define`: 0 or the refusal's number, and what it stored.
 #[derive(Clone, Copy, Debug, PartialEq, Eq)]
@@ -19,6 +19,15 @@ pub struct Reparsed {
     pub entries: u64,
     pub first: u64,
     pub read: u64,
+}
+
+/// What a call over a function's records is lent of it.
+#[derive(Clone, Copy, Debug)]
+pub struct Function<'a> {
+    pub text: &'a [u8],
+    pub words: &'a [u64],
+    pub directory: &'a [u64],
+    pub entries: u64,
 }
 
 pub trait Port: Sync {
@@ -47,6 +56,9 @@ pub trait Port: Sync {
 
     /// `zimlokur_name`: 1 with the part's start and length, or 0 with zeros.
     fn name(&self, piece: &[u8], name: u64, start: &mut u64, length: &mut u64) -> u64;
+
+    /// `zimlokur_block_map`: 0, or 27, with place and length (M-109).
+    fn block_map(&self, of: Function, map: &mut [u8], place: &mut u64, length: &mut u64) -> u64;
 }
 
 /// The model as a port.
@@ -104,5 +116,12 @@ impl Port for Model {
         let part = steps::name(piece, name);
         (*start, *length) = part.unwrap_or((0, 0));
         u64::from(part.is_some())
+    }
+
+    fn block_map(&self, of: Function, map: &mut [u8], place: &mut u64, length: &mut u64) -> u64 {
+        let written = map::block_map(of.text, of.words, of.directory, of.entries, map);
+        *length = written.unwrap_or(0) as u64;
+        *place = written.map_or_else(|r| r.place as u64, |_| 0);
+        written.map_or_else(|r| r.number, |_| 0)
     }
 }

@@ -287,7 +287,7 @@ fn altered(rng: &mut Rng, records: &[u64]) -> Vec<u64> {
     words
 }
 
-fn any_word(rng: &mut Rng, at: u64, length: u64) -> u64 {
+pub(crate) fn any_word(rng: &mut Rng, at: u64, length: u64) -> u64 {
     match rng.below(8) {
         0 => rng.bits(),
         // The count of a switch before it.
@@ -305,7 +305,7 @@ fn any_word(rng: &mut Rng, at: u64, length: u64) -> u64 {
 const PARENTS: &[u64] = &[6, 8, 11, 25, 29, 32, 39, 40, 41, 42, 44, 50, 52, 54, 54, 54, 60, 61, 62, 1];
 
 /// None, short, around the array's end, as far as it goes, and to words before if it were taken modulo 2^32.
-fn any_extent(rng: &mut Rng, at: u64, length: u64) -> u64 {
+pub(crate) fn any_extent(rng: &mut Rng, at: u64, length: u64) -> u64 {
     const LARGEST: u64 = u32::MAX as u64;
     let left = length - at;
     let back = rng.below(at as usize + 1) as u64;
@@ -384,7 +384,7 @@ fn any_end(rng: &mut Rng, words: &[u64], at: u64) -> u64 {
 }
 
 /// Parts that end in the piece, at its end, behind it; those whose end is in it modulo 2^32; words of records.
-fn any_name(rng: &mut Rng, words: &[u64], length: u64) -> u64 {
+pub(crate) fn any_name(rng: &mut Rng, words: &[u64], length: u64) -> u64 {
     const LARGEST: u64 = u32::MAX as u64;
     let start = rng.below(length as usize + 2) as u64;
     let left = length.saturating_sub(start);

@@ -9,6 +9,7 @@ pub mod fold;
 pub mod full;
 pub mod lexer;
 pub mod literals;
+pub mod map;
 pub mod nodes;
 pub mod reread;
 pub mod statements;

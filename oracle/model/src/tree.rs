@@ -14,8 +14,9 @@ pub struct Node<'a> {
     pub kind: u64,
     /// The node above it, by its number in the list; none above head and blocks.
     pub parent: Option<usize>,
-    /// The text of the piece that it stands in.
+    /// The text of the piece that it stands in, and the counter where that begins (M-106).
     pub piece: &'a [u8],
+    pub counter: u64,
     /// Its name as it stands in the piece, and where; none if none is written.
     pub name: Option<Name<'a>>,
 }
@@ -35,7 +36,7 @@ pub fn tree(text: &[u8]) -> Option<Vec<Node<'_>>> {
         let rest = &text[at..];
         let read = if at == 0 { head(rest) } else { block_or_tail(rest, counter) };
         let piece: Piece = read.ok()?;
-        growing.piece(&rest[..piece.length], &piece.words);
+        growing.piece(&rest[..piece.length], counter, &piece.words);
         if piece.role == Role::Tail {
             return Some(growing.nodes);
         }
@@ -59,10 +60,10 @@ struct Growing<'a> {
 
 impl<'a> Growing<'a> {
     /// Adds the nodes of a piece, which ends with the last of them.
-    fn piece(&mut self, piece: &'a [u8], words: &[Word]) {
+    fn piece(&mut self, piece: &'a [u8], counter: u64, words: &[Word]) {
         for word in words {
             match *word {
-                Word::Header(bits) => self.begin(piece, Header::of(bits)),
+                Word::Header(bits) => self.begin(piece, counter, Header::of(bits)),
                 Word::Name(bits) => self.give_name(piece, bits),
                 Word::Number(_) => {}
             }
@@ -71,14 +72,15 @@ impl<'a> Growing<'a> {
         self.close();
     }
 
-    fn begin(&mut self, piece: &'a [u8], header: Header) {
+    fn begin(&mut self, piece: &'a [u8], counter: u64, header: Header) {
         self.close();
         let parent = self.open.last_mut().map(|open| {
             open.missing -= 1;
             open.number
         });
         self.open.push(Open { number: self.nodes.len(), missing: header.children });
-        self.nodes.push(Node { at: self.words, end: 0, kind: header.kind, parent, piece, name: None });
+        let (at, kind) = (self.words, header.kind);
+        self.nodes.push(Node { at, end: 0, kind, parent, piece, counter, name: None });
     }
 
     /// A name belongs to the node that was begun last.

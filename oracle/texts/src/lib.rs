@@ -3,6 +3,7 @@
 
 pub mod clang;
 pub mod cover;
+pub mod jumps;
 pub mod maker;
 pub mod mutate;
 pub mod numbers;

@@ -1,6 +1,6 @@
 -- The calls, one behind the other.
 use Rattle.listing.specs.Lines.{listing}
-use Rattle.listing.proofs.Laws.{and-then}
+use Rattle.printing.specs.Laws.{and-then}
 use borrow.Author.Needs.{needs}
 use Rattle.listing.proofs.list.Statement.{statement}
 use Rattle.listing.proofs.list.Tie as tie

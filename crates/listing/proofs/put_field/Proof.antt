@@ -1,6 +1,6 @@
 -- The two calls, one behind the other.
 use Rattle.listing.specs.Lines.{field}
-use Rattle.listing.proofs.Laws.{and-then}
+use Rattle.printing.specs.Laws.{and-then}
 use borrow.Author.Needs.{needs}
 use Rattle.listing.proofs.put_field.Statement.{statement}
 use Rattle.listing.proofs.put_field.Tie as tie

@@ -1,6 +1,6 @@
 -- The calls, one behind the other.
 use Rattle.listing.specs.Lines.{pieceLine}
-use Rattle.listing.proofs.Laws.{and-then}
+use Rattle.printing.specs.Laws.{and-then}
 use borrow.Author.Needs.{needs}
 use Rattle.listing.proofs.put_piece.Statement.{statement}
 use Rattle.listing.proofs.put_piece.Tie as tie

@@ -4,9 +4,10 @@ use Prim.Native.Nat.{_+_, _-_, _*_}
 use native.Mathlib.Omega.{arith}
 use lib.ListN.{length, drop}
 use Rattle.records.specs.Limits.{entryWords}
-use Rattle.listing.specs.Stored.{stored, placed}
+use Rattle.printing.specs.Stored.{stored, placed}
 use Rattle.listing.specs.Lines.{pieceLines}
-use Rattle.listing.proofs.Laws.{next-line, lines-over, lines-done, went-on}
+use Rattle.printing.specs.Laws.{went-on}
+use Rattle.listing.proofs.Laws.{next-line, lines-over, lines-done}
 use borrow.Author.Needs.{needs}
 use Rattle.listing.proofs.put_pieces.Statement.{statement}
 use Rattle.listing.proofs.put_pieces.Tie as tie

@@ -1,7 +1,7 @@
 -- The calls, one behind the other.
 use mathlib.Core.Path.{_∙_}
 use Rattle.listing.specs.Lines.{refusalLine}
-use Rattle.listing.proofs.Laws.{and-then}
+use Rattle.printing.specs.Laws.{and-then}
 use borrow.Author.Needs.{needs}
 use Rattle.listing.proofs.refusal.Statement.{statement}
 use Rattle.listing.proofs.refusal.Tie as tie

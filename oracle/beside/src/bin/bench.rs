@@ -1,10 +1,10 @@
 //! Throughput beside the Rust, in one run, as ratios; growth from 1 KB to 16 MB; re-reading after
-//! a one-digit edit, and after one that moves every number (M-106). `bench` takes the static library,
-//! `bench --model` the model.
+//! a one-digit edit, and after one that moves every number (M-106). `bench --map`: block maps (M-109) of functions of
+//! several shapes as they grow. `bench` takes the static library, `bench --model` the model.
 //!
 //! Arrays are lent at the exact fit and not cleared first: clearing is the reader's own work.
 
-use beside::port::{Model, Port};
+use beside::port::{Function, Model, Port};
 use beside::{big, library};
 use judge::walk::ENTRY_WORDS;
 use judge::{files, left_out};
@@ -178,6 +178,89 @@ fn shift(port: &dyn Port, functions: &[Vec<u8>]) -> String {
     out
 }
 
+/// A shape: its name, and a function of some so many bytes.
+type Shape = (&'static str, fn(usize) -> Vec<u8>);
+
+/// A map of each is at most 16 MB where the text is.
+const SHAPES: &[Shape] = &[
+    ("short blocks", |bytes| body(bytes, |i| format!("a{i}:br label %a{i}\n"))),
+    ("blocks without a label or a jump", |bytes| body(bytes, |_| "ret void\n".to_string())),
+    ("labels of 1,000 bytes", |bytes| {
+        let label = "l".repeat(1000);
+        body(bytes, move |_| format!("{label}:br label %{label}\n"))
+    }),
+    ("labels of 1,000 escapes", |bytes| {
+        let label = "\\0a".repeat(1000);
+        body(bytes, move |_| format!("\"{label}\":br label %\"{label}\"\n"))
+    }),
+    ("switches with 65,000 cases", |bytes| {
+        let cases = "i8 1,label %abcdefgh\n".repeat(65_000.min(bytes / 21));
+        body(bytes.saturating_sub(cases.len()), move |_| format!("switch i8 1,label %a[{cases}]\n"))
+    }),
+    ("a label of 100 bytes, switches with 100 cases", |bytes| {
+        let (label, cases) = ("l".repeat(100), "i8 1,label %a\n".repeat(100));
+        body(bytes, move |_| format!("{label}:switch i8 1,label %a[{cases}]\n"))
+    }),
+    ("long statements", |bytes| {
+        let statements = "%x = add i32 1, 2\n".repeat(1000);
+        body(bytes, move |i| format!("a{i}:{statements}br label %a{i}\n"))
+    }),
+];
+
+/// A function of blocks, up to so many bytes and at least one.
+fn body(bytes: usize, block: impl Fn(usize) -> String) -> Vec<u8> {
+    let mut out = "void @f() {\n".to_string();
+    for i in 0.. {
+        out.push_str(&block(i));
+        if out.len() >= bytes {
+            break;
+        }
+    }
+    (out + "}").into_bytes()
+}
+
+/// One line: the map of a function, in a buffer of its length.
+fn mapped(port: &dyn Port, text: Vec<u8>) -> Option<String> {
+    let mut job = Job::new(&text)?;
+    let entries = job.read(port);
+    let of = Function { text: &job.text, words: &job.words, directory: &job.directory, entries };
+    let (mut place, mut length) = (0, 0);
+    let mut map = vec![0; model::map::LENGTH];
+    if port.block_map(of, &mut map, &mut place, &mut length) != 0 {
+        return None;
+    }
+    map.truncate(length as usize);
+    let time = best(|| assert_eq!(port.block_map(of, &mut map, &mut place, &mut length), 0));
+    let (bytes, words, blocks) = (job.text.len(), job.words.len(), entries - 2);
+    let each = |parts: usize| time.as_secs_f64() * 1e9 / parts as f64;
+    let (ms, all) = (time.as_secs_f64() * 1e3, bytes + words + map.len());
+    Some(format!(
+        "{bytes} | {words} | {blocks} | {length} | {ms:.3} | {:.3} | {:.3} |",
+        each(bytes + words),
+        each(all)
+    ))
+}
+
+/// About so many bytes of text.
+const SIZES: &[usize] =
+    &[1 << 12, 1 << 14, 1 << 16, 1 << 18, 1 << 20, 1 << 21, 1 << 22, 1 << 23, 10 << 20, 12 << 20, 16_700_000];
+
+/// Block maps of each shape as it grows, as long as the map is not too long.
+fn maps(port: &dyn Port) -> Result<bool, String> {
+    let mut out = "| shape | text bytes | words | blocks | map bytes | time in ms | ns for a word or text byte | with map bytes |\n\
+                   |---|---|---|---|---|---|---|---|\n"
+        .to_string();
+    for (name, shape) in SHAPES {
+        let mut texts: Vec<Vec<u8>> = SIZES.iter().map(|&size| shape(size)).collect();
+        texts.dedup();
+        for line in texts.into_iter().filter_map(|text| mapped(port, text)) {
+            out.push_str(&format!("| {name} | {line}\n"));
+        }
+    }
+    files::print(&out)?;
+    Ok(true)
+}
+
 fn run(port: &dyn Port) -> Result<bool, String> {
     // Without those of clang 22: the Rust refuses most of them at their first attribute. Without
     // `atomicrmw`, which is never compared with the Rust.
@@ -203,6 +286,8 @@ fn main() -> ExitCode {
     files::finish(match args[..] {
         [] => library().and_then(run),
         ["--model"] => run(&Model),
-        _ => Err("usage: bench [--model]".to_string()),
+        ["--map"] => library().and_then(maps),
+        ["--model", "--map"] => maps(&Model),
+        _ => Err("usage: bench [--model] [--map]".to_string()),
     })
 }

@@ -4,13 +4,14 @@
 //! edit of one byte of some texts, `--edits SEED COUNT` so many edits, `--values SEED COUNT` so many
 //! types and values, `--numerals SEED COUNT` so many numerals around the limits, `--afternoons SEED COUNT` so
 //! many sequences of edits in the same arrays, and as many with refused calls that were lent what is not theirs,
-//! `--walk SEED COUNT` so many functions stepped over from node to node, and as many hostile arrays.
+//! `--walk SEED COUNT` so many functions stepped over from node to node, and as many hostile arrays, `--map SEED COUNT`
+//! so many block maps, and as many of hostile records.
 
 use beside::afternoon::{self, Calls};
 use beside::port::{Model, Port};
 use beside::shrink::shrink;
 use beside::walk::{self, Hostile, Met};
-use beside::{big, check, library, long, reread, rooms};
+use beside::{big, check, library, long, map, reread, rooms};
 use judge::{files, hex, left_out, reads_on};
 use model::fold;
 use model::full::records;
@@ -18,7 +19,7 @@ use std::collections::BTreeMap;
 use std::process::ExitCode;
 use texts::numerals::{self, Placed};
 use texts::rng::Rng;
-use texts::{clang, cover, maker, mutate, short, Kind, Texts};
+use texts::{clang, cover, jumps, maker, mutate, short, Kind, Texts};
 
 /// How many calls were answered with each number; 0 is accepted.
 #[derive(Default)]
@@ -176,6 +177,40 @@ impl Walks {
     }
 }
 
+/// What was mapped (M-109).
+#[derive(Default)]
+struct Maps {
+    functions: u64,
+    /// Of these, functions of clang, as printed or damaged.
+    real: u64,
+    met: map::Met,
+    hostile: map::Hostile,
+}
+
+impl Maps {
+    fn add(&mut self, other: Maps) {
+        self.functions += other.functions;
+        self.real += other.real;
+        self.met.add(other.met);
+        self.hostile.add(other.hostile);
+    }
+
+    fn show(&self) -> String {
+        let Maps { functions, real, met, hostile } = self;
+        let map::Met { maps, blocks, edges, bytes, calls, refused } = met;
+        let first = format!(
+            "{functions} functions, {real} of them of clang: {maps} maps of {bytes} bytes with {blocks} blocks and {edges} \
+             edges, in {calls} calls, {refused} of them refused with 27\n"
+        );
+        let map::Hostile { calls, refused, maps, blocks, edges, empty, wide } = hostile;
+        first
+            + &format!(
+                "{calls} hostile calls, {refused} of them refused with 27: {maps} maps with {blocks} blocks and {edges} edges, \
+                 {empty} names without a letter, {wide} with an escape above a byte\n"
+            )
+    }
+}
+
 #[derive(Default)]
 struct Report {
     texts: Answers,
@@ -185,10 +220,11 @@ struct Report {
     numerals: Numerals,
     afternoons: Afternoons,
     walks: Walks,
+    maps: Maps,
     wrong: Vec<String>,
 }
 
-const USAGE: &str = "usage: beside [--model] ([--edits | --values | --numerals | --afternoons | --walk] SEED COUNT | --short | --bytes)";
+const USAGE: &str = "usage: beside [--model] ([--edits | --values | --numerals | --afternoons | --walk | --map] SEED COUNT | --short | --bytes)";
 
 /// So many differences are shown; more would be the same ones again.
 const SHOWN: usize = 20;
@@ -346,6 +382,28 @@ impl Report {
         }
     }
 
+    /// The map of an accepted text, and one of hostile records made of its own.
+    fn map(&mut self, port: &dyn Port, rng: &mut Rng, text: &[u8]) {
+        match map::function(port, rng, text) {
+            None => return,
+            Some(result) => self.mapped(text, result),
+        }
+        match map::hostile(port, rng, text) {
+            Ok(hostile) => self.maps.hostile.add(hostile),
+            Err(why) => self.wrong(b"", &why),
+        }
+    }
+
+    fn mapped(&mut self, text: &[u8], result: Result<map::Met, String>) {
+        match result {
+            Ok(met) => {
+                self.maps.functions += 1;
+                self.maps.met.add(met);
+            }
+            Err(why) => self.wrong(text, &why),
+        }
+    }
+
     fn add(&mut self, other: Report) {
         self.texts.add(other.texts);
         self.rooms += other.rooms;
@@ -354,6 +412,7 @@ impl Report {
         self.numerals.add(other.numerals);
         self.afternoons.add(other.afternoons);
         self.walks.add(other.walks);
+        self.maps.add(other.maps);
         self.wrong.extend(other.wrong);
     }
 
@@ -378,6 +437,9 @@ impl Report {
         }
         if self.walks.functions > 0 {
             out.push_str(&self.walks.show());
+        }
+        if self.maps.functions > 0 {
+            out.push_str(&self.maps.show());
         }
         out.push_str(&format!("{} differences\n", self.wrong.len()));
         out
@@ -486,6 +548,48 @@ fn fixed_walks(port: &dyn Port) -> Report {
     let before = report.walks.functions;
     clang::functions().iter().for_each(|text| report.walk(port, &mut rng, text));
     report.walks.real = report.walks.functions - before;
+    report
+}
+
+/// So many functions mapped, and as many hostile records. Every other one has labels and targets as its point.
+fn maps(port: &dyn Port, seed: u64, count: u64) -> Report {
+    let mut report = Report::default();
+    let mut texts = Texts::new(seed);
+    let mut rng = Rng::new(seed ^ 0x5bd1_e995);
+    let mut drawn: u64 = 0;
+    while report.maps.functions < count && report.wrong.len() < SHOWN {
+        let before = report.maps.functions;
+        let (real, text) = match drawn % REAL {
+            0 => (true, texts.real().1),
+            odd if odd % 2 == 1 => (false, jumps::function(&mut rng)),
+            _ => {
+                let (kind, text) = texts.draw();
+                (matches!(kind, Kind::Clang | Kind::ClangMutated), text)
+            }
+        };
+        report.map(port, &mut rng, &text);
+        if real {
+            report.maps.real += report.maps.functions - before;
+        }
+        drawn += 1;
+    }
+    report
+}
+
+/// The functions that every run maps: each byte in a label, each form, all stored ones of clang, those with the
+/// most children, and those whose map is as long as one may be.
+fn fixed_maps(port: &dyn Port) -> Report {
+    let mut report = Report::default();
+    let mut rng = Rng::new(0);
+    for text in
+        [jumps::every_byte(), jumps::every_escape()].iter().chain(&cover::texts()).chain(&big::children())
+    {
+        report.map(port, &mut rng, text);
+    }
+    let before = report.maps.functions;
+    clang::functions().iter().for_each(|text| report.map(port, &mut rng, text));
+    report.maps.real = report.maps.functions - before;
+    map::longest().iter().for_each(|text| report.mapped(text, map::at_the_limit(port, text)));
     report
 }
 
@@ -612,6 +716,13 @@ fn walk_work(port: &'static dyn Port, seed: u64, count: u64) -> Vec<Work> {
     work
 }
 
+/// Two halves, and the fixed ones.
+fn map_work(port: &'static dyn Port, seed: u64, count: u64) -> Vec<Work> {
+    let mut work = halves(maps, port, seed, count);
+    work.push(Box::new(move || fixed_maps(port)));
+    work
+}
+
 fn byte_work(port: &'static dyn Port) -> Vec<Work> {
     vec![Box::new(move || half_of_bytes(port, 0)), Box::new(move || half_of_bytes(port, 1))]
 }
@@ -645,6 +756,7 @@ fn start(args: &[&str]) -> Result<bool, String> {
         ["--values", seed, count] => run(halves(values, port, number(seed)?, number(count)?)),
         ["--numerals", seed, count] => run(numeral_work(port, number(seed)?, number(count)?)),
         ["--walk", seed, count] => run(walk_work(port, number(seed)?, number(count)?)),
+        ["--map", seed, count] => run(map_work(port, number(seed)?, number(count)?)),
         [seed, count] => run(stream_work(port, number(seed)?, number(count)?)),
         _ => Err(USAGE.to_string()),
     }

@@ -1,17 +1,20 @@
 //! The model's answers: `model FILE` reads texts in hexadecimal, one a line, and writes vectors;
 //! `model --vectors FILE` holds vectors against it, word for word; `model --beside SEED COUNT`
 //! holds it against the Rust on texts of a seed, `model --short` on every short string behind the
-//! prefixes; `model --edits SEED COUNT` holds its re-reading against its full reading.
+//! prefixes; `model --edits SEED COUNT` holds its re-reading against its full reading. `model --map FILE` writes the
+//! block maps (M-109) of a function's text from behind `define`, or of each function of a file as clang prints it.
 
 use judge::answer::on_big_stack;
 use judge::{files, hex, left_out, vector};
 use model::beside;
 use model::full::records;
+use model::map;
 use std::process::ExitCode;
 use texts::rng::Rng;
 use texts::{mutate, short, Texts};
 
-const USAGE: &str = "usage: model FILE | --vectors FILE | --beside SEED COUNT | --short | --edits SEED COUNT";
+const USAGE: &str =
+    "usage: model FILE | --vectors FILE | --beside SEED COUNT | --short | --edits SEED COUNT | --map FILE";
 
 fn answers(path: &str) -> Result<bool, String> {
     let texts = files::lines(path, hex::decode)?;
@@ -102,6 +105,13 @@ fn edits(seed: u64, count: u64) -> Result<bool, String> {
     Ok(wrong == 0)
 }
 
+fn maps(path: &str) -> Result<bool, String> {
+    let text = files::read(path)?;
+    let maps = on_big_stack(move || map::printed(text.as_bytes()));
+    files::print(&String::from_utf8_lossy(&maps))?;
+    Ok(!maps.is_empty())
+}
+
 fn main() -> ExitCode {
     let args: Vec<String> = std::env::args().skip(1).collect();
     let args: Vec<&str> = args.iter().map(String::as_str).collect();
@@ -110,6 +120,7 @@ fn main() -> ExitCode {
         ["--beside", seed, count] => number(seed).and_then(|s| stream(s, number(count)?)),
         ["--short"] => every_short(),
         ["--edits", seed, count] => number(seed).and_then(|s| edits(s, number(count)?)),
+        ["--map", path] => maps(path),
         [path] if !path.starts_with("--") => answers(path),
         _ => Err(USAGE.to_string()),
     })

@@ -1,0 +1,5 @@
+pub mod Drawing
+pub mod Blocks
+pub mod Buffer
+pub mod Views
+pub mod Known

@@ -1,0 +1,3 @@
+pub mod Stored
+pub mod Decimal
+pub mod Laws
