@@ -12,7 +12,7 @@ use lib.Seq.{take-all, drop-drop, getD-drop}
 use borrow.Author.Tests.{leb-true, leb-false}
 use Rattle.records.specs.Words.{hi, lo}
 use Rattle.trees.specs.Steps.{extentIn, wordAt}
-use Rattle.maps.specs.Blocks.{pieceText, firstNode, behindNode}
+use Rattle.drawings.specs.Blocks.{pieceText, firstNode, behindNode}
 
 -- the lesser of two numbers, as the code finds it
 abbrev pub Least : (r a b : ℕ) → Type 0

@@ -11,8 +11,8 @@ use lib.ListN.{length, List·getD-eq-default}
 use borrow.Author.Tests.{ltb-true, ltb-false, eq-eqb, ne-eqb}
 use Rattle.records.specs.Kinds.{kind, Name}
 use Rattle.trees.specs.Steps.{kindIn, childrenIn, wordAt, childOf, nextOf}
-use Rattle.maps.specs.Drawing.{edgeLine, edgesTo}
-use Rattle.maps.specs.Blocks.{nameIn, branches, nameHere, namesFrom, lastFrom, targetsAt, targetsIn}
+use Rattle.drawings.specs.Drawing.{edgeLine, edgesTo}
+use Rattle.drawings.specs.Blocks.{nameIn, branches, nameHere, namesFrom, lastFrom, targetsAt, targetsIn}
 
 -- the last node
 pub last-next : (m : ℕ) (ws : List ℕ) (at to : ℕ) → 0 < m → nextOf ws at (length ws) ≡ some to → lastFrom m ws at ≡ lastFrom (m - 1) ws to

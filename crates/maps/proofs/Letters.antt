@@ -14,7 +14,7 @@ use Rattle.names.specs.Names.{isQuoted, inner, rawWord}
 use Rattle.lexer.proofs.Laws.{true-false}
 use Rattle.printing.specs.Stored.{onward, with-byte, stored, placed, Stores}
 use Rattle.printing.specs.Decimal.{digitsIn, decimal}
-use Rattle.maps.specs.Drawing.{isPlain, escape, letter, letters}
+use Rattle.drawings.specs.Drawing.{isPlain, escape, letter, letters}
 
 -- one byte
 pub one : {at b r : ℕ} {out end : List ℕ} → (r ≡ onward at) × (end ≡ with-byte at b out) → Stores (b ∷ []) at out r end

@@ -11,8 +11,8 @@ use Rattle.records.specs.Entries.{three, short}
 use Rattle.trees.specs.Steps.{wordAt}
 use Rattle.printing.specs.Stored.{stored, placed, Stores}
 use Rattle.printing.specs.Laws.{went-on}
-use Rattle.maps.specs.Drawing.{Shown, shown, nodeLine, nodeOf, edgesTo, edgesOf, linesOf}
-use Rattle.maps.specs.Blocks.{pieceText, blockName, targetsIn, firstNode, behindNode, blocksFrom}
+use Rattle.drawings.specs.Drawing.{Shown, shown, nodeLine, nodeOf, edgesTo, edgesOf, linesOf}
+use Rattle.drawings.specs.Blocks.{pieceText, blockName, targetsIn, firstNode, behindNode, blocksFrom}
 use Rattle.maps.specs.Views.{sortOfLines}
 
 -- a block, as its entry and its node show it

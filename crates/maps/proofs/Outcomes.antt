@@ -13,7 +13,7 @@ use Rattle.records.specs.Limits.{textLimit}
 use Rattle.records.specs.Pieces.{pad}
 use Rattle.printing.specs.Stored.{stored, placed}
 use Rattle.printing.specs.Laws.{placed-whole, placed-over, stored-whole}
-use Rattle.maps.specs.Buffer.{drawn, too-long, outcome}
+use Rattle.drawings.specs.Buffer.{drawn, too-long, outcome}
 use Rattle.maps.proofs.Cuts.{cleared}
 
 module _ (text out : List ℕ) (n : ℕ) (p : n ≡ placed 0 text) where

@@ -1,5 +1,1 @@
-pub mod Drawing
-pub mod Blocks
-pub mod Buffer
 pub mod Views
-pub mod Known

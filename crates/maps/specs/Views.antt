@@ -5,8 +5,8 @@ use mathlib.Core.List.{List}
 use Prim.Native.Nat.{ℕ}
 use Rattle.maps.specs.declared.Drawn.{Drawn}
 use Rattle.maps.specs.declared.Drawn.the-variants.{Map, TooLong}
-use Rattle.maps.specs.Drawing.{Shown, nodeOf, edgesOf}
-use Rattle.maps.specs.Buffer.{Outcome, drawn, too-long}
+use Rattle.drawings.specs.Drawing.{Shown, nodeOf, edgesOf}
+use Rattle.drawings.specs.Buffer.{Outcome, drawn, too-long}
 
 -- the lines of a pass: those of the edges, or of the nodes
 abbrev pub sortOfLines : Bool → Shown → List ℕ

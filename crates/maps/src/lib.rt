@@ -11,9 +11,9 @@ ghost use Prim.Native.Nat.{_-_};
 ghost use lib.ListN.{length, take, drop, replicate};
 ghost use Rattle.records.specs.Limits.{entryWords};
 ghost use Rattle.printing.specs.Stored.{Stores};
-ghost use Rattle.maps.specs.Drawing.{nodeLine, linesOf};
-ghost use Rattle.maps.specs.Blocks.{pieceText, blockName, firstNode, behindNode, blocksFrom, mapIn};
-ghost use Rattle.maps.specs.Buffer.{blockMap};
+ghost use Rattle.drawings.specs.Drawing.{nodeLine, linesOf};
+ghost use Rattle.drawings.specs.Blocks.{pieceText, blockName, firstNode, behindNode, blocksFrom, mapIn};
+ghost use Rattle.drawings.specs.Buffer.{blockMap};
 ghost use Rattle.maps.specs.Views.{sortOfLines, drawnBy};
 
 // A map of so many bytes, or one that is too long (27).

@@ -9,8 +9,8 @@ ghost use Rattle.grammar.specs.Lexer.{spelled, unescape};
 ghost use Rattle.names.specs.Names.{rawWord};
 ghost use Rattle.printing.specs.Stored.{Stores};
 ghost use Rattle.printing.specs.Decimal.{decimal};
-ghost use Rattle.maps.specs.Drawing.{hexDigit, isPlain, letter, letters, inQuotes};
-ghost use Rattle.maps.specs.Blocks.{nameIn, blockName};
+ghost use Rattle.drawings.specs.Drawing.{hexDigit, isPlain, letter, letters, inQuotes};
+ghost use Rattle.drawings.specs.Blocks.{nameIn, blockName};
 
 // What a block is named by: its entry's counter, and its label's word.
 pub struct Label {

@@ -7,8 +7,8 @@ use steps::Step;
 ghost use mathlib.Core.Path.{_≡_};
 ghost use mathlib.Core.Option.{some};
 ghost use Rattle.printing.specs.Stored.{Stores};
-ghost use Rattle.maps.specs.Drawing.{edgeLine, edgesTo};
-ghost use Rattle.maps.specs.Blocks.{nameIn, blockName, branches, nameHere, namesFrom, lastFrom, targetsAt, targetsIn};
+ghost use Rattle.drawings.specs.Drawing.{edgeLine, edgesTo};
+ghost use Rattle.drawings.specs.Blocks.{nameIn, blockName, branches, nameHere, namesFrom, lastFrom, targetsAt, targetsIn};
 
 // The terminators that name targets.
 fn names_targets(kind: u8) -> bool

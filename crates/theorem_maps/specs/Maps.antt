@@ -20,8 +20,8 @@ use Rattle.theorem_refusals.specs.Trees.{many-sorts, repeat-length}
 use Rattle.theorem_edits.specs.Same.{Accepts, accepted, sizes, sizes-reading, text-short}
 use Rattle.theorem_edits.specs.Again.{laws}
 use Rattle.theorem_trees.specs.Function.{accepted-function}
-use Rattle.maps.specs.Drawing.{drawing}
-use Rattle.maps.specs.Blocks.{pieceText, blocksOf, mapOf, behindNode, blocksIn, mapIn}
+use Rattle.drawings.specs.Drawing.{drawing}
+use Rattle.drawings.specs.Blocks.{pieceText, blocksOf, mapOf, behindNode, blocksIn, mapIn}
 use Rattle.theorem_maps.specs.Words.{behind-node, blocks-from}
 
 -- Over the words of a head and of blocks, with zeros behind.

@@ -11,7 +11,7 @@ use borrow.Author.Tests.{ltb-true, ltb-false}
 use Rattle.program.specs.Bytes.{bytes, byte}
 use Rattle.program.specs.Choice.{pick}
 use Rattle.program.specs.Class.{DIGIT, HEX}
-use Rattle.maps.specs.Drawing.{Shown, shown, hexDigit, isPlain, escape, letter, letters, inQuotes, nodeLine, edgeLine, nodeOf, edgesTo, edgesOf, linesOf, drawing}
+use Rattle.drawings.specs.Drawing.{Shown, shown, hexDigit, isPlain, escape, letter, letters, inQuotes, nodeLine, edgeLine, nodeOf, edgesTo, edgesOf, linesOf, drawing}
 
 -- an edge, from a block to a target
 pub data Edge : Type 0 where

@@ -18,8 +18,8 @@ use Rattle.records.specs.Kinds.{Kind, kind, Void, Int, Float, Double, Ptr, Arra
 use Rattle.trees.specs.Tree.{Trees, empty, tree, behindFirst}
 use Rattle.trees.specs.Forms.{Sort, type, function, value, instruction, terminator, head, block, parameter, name, sortOf, sorts, repeat, where-set, childrenOf, formOf, Fits, fits, Formed}
 use Rattle.trees.specs.Function.{Function}
-use Rattle.maps.specs.Drawing.{Shown, shown}
-use Rattle.maps.specs.Blocks.{pieceText, nameIn, blockName, branches, namesOf, targetsOf, blocksOf, blocksIn}
+use Rattle.drawings.specs.Drawing.{Shown, shown}
+use Rattle.drawings.specs.Blocks.{pieceText, nameIn, blockName, branches, namesOf, targetsOf, blocksOf, blocksIn}
 use Rattle.theorem_maps.specs.Kinds.{kind-own, block-kind}
 use Rattle.theorem_maps.specs.Maps.{shows-trees}
 

@@ -18,7 +18,7 @@ use Rattle.trees.specs.Tree.{Trees, empty, tree, howMany, treeWords}
 use Rattle.trees.specs.Forms.{Sort, block, sortOf, sorts, repeat, formOf, Fits, fits, Formed}
 use Rattle.trees.specs.Steps.{childrenIn, extentIn, wordAt, childOf, nextOf}
 use Rattle.theorem_trees.specs.Walk.{firstOf, extent, children, kind-here, behind-header, children-from, others-from, child-first, next-sibling}
-use Rattle.maps.specs.Blocks.{pieceText, nameIn, branches, namesOf, targetsOf, blocksOf, nameHere, namesFrom, lastFrom, targetsAt, targetsIn, firstNode, behindNode, blocksFrom}
+use Rattle.drawings.specs.Blocks.{pieceText, nameIn, branches, namesOf, targetsOf, blocksOf, nameHere, namesFrom, lastFrom, targetsAt, targetsIn, firstNode, behindNode, blocksFrom}
 use Rattle.theorem_maps.specs.Kinds.{kind-own, block-kind}
 
 -- The first word behind the header is the first of the payload, where there is one.

@@ -4,7 +4,7 @@ use mathlib.Core.Path.{_≡_, sym, ap, _∙_, subst}
 use mathlib.Core.List.{List}
 use Prim.Native.Nat.{ℕ}
 use Rattle.records.specs.Questions.{qOutput}
-use Rattle.maps.specs.Buffer.{Outcome}
+use Rattle.drawings.specs.Buffer.{Outcome}
 use Rattle.maps.specs.Views.{drawnBy}
 use Rattle.maps.specs.declared.Drawn.{Drawn}
 use Rattle.maps.specs.declared.Drawn.the-variants.{Map, TooLong}

@@ -6,7 +6,7 @@ use Prim.Native.Nat.{ℕ}
 use Rattle.records.specs.Questions.{qOutput}
 use Rattle.records.specs.Pieces.{Answer, refusedAt, count, Left, left, Again, again-left}
 use Rattle.trees.specs.Steps.{Part, part}
-use Rattle.maps.specs.Buffer.{Outcome, drawn, too-long}
+use Rattle.drawings.specs.Buffer.{Outcome, drawn, too-long}
 
 -- the question that refuses, or 0; the place, 0 where it is accepted; the entry count, 0 where it is refused
 abbrev pub questionOf : Answer → ℕ

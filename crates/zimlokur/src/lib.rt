@@ -9,7 +9,7 @@ ghost use lib.ListN.{length};
 ghost use Rattle.grammar.specs.Function.{readingOf, rereadingOf};
 ghost use Rattle.lines.specs.Place.{positionOf};
 ghost use Rattle.trees.specs.Steps.{childOf, nextOf, partOf};
-ghost use Rattle.maps.specs.Buffer.{blockMap};
+ghost use Rattle.drawings.specs.Buffer.{blockMap};
 ghost use Rattle.zimlokur.specs.Report.{Reports, ReportsAgain, ReportsStep, ReportsPart, ReportsMap};
 
 // The full reading. Returns 0, or the number of the question that refuses; then both arrays are zero.

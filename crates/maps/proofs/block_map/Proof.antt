@@ -1,6 +1,6 @@
 -- The text's end says whether it fits, and zeros stand behind it.
 use mathlib.Core.Logic.{⊎-elim}
-use Rattle.maps.specs.Buffer.{blockMap}
+use Rattle.drawings.specs.Buffer.{blockMap}
 use Rattle.maps.proofs.Outcomes.{whole, over-limit, over-room}
 use borrow.Author.Needs.{needs}
 use Rattle.maps.proofs.block_map.Statement.{statement}

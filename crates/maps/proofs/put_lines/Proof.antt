@@ -6,8 +6,8 @@ use native.Mathlib.Omega.{arith}
 use lib.ListN.{length, getD, drop}
 use Rattle.records.specs.Limits.{entryWords}
 use Rattle.printing.specs.Stored.{stored, placed, Stores}
-use Rattle.maps.specs.Drawing.{linesOf}
-use Rattle.maps.specs.Blocks.{behindNode, blocksFrom}
+use Rattle.drawings.specs.Drawing.{linesOf}
+use Rattle.drawings.specs.Blocks.{behindNode, blocksFrom}
 use Rattle.maps.specs.Views.{sortOfLines}
 use Rattle.maps.proofs.Ends.{done, past}
 use Rattle.maps.proofs.Lines.{block, linesFrom, turn, edges-shown, nodes-shown, lines-over, lines-done}

@@ -1,7 +1,7 @@
 -- The calls, one behind the other.
 use Rattle.printing.specs.Laws.{and-then}
-use Rattle.maps.specs.Drawing.{drawing}
-use Rattle.maps.specs.Blocks.{blocksIn, mapIn}
+use Rattle.drawings.specs.Drawing.{drawing}
+use Rattle.drawings.specs.Blocks.{blocksIn, mapIn}
 use borrow.Author.Needs.{needs}
 use Rattle.maps.proofs.put_map.Statement.{statement}
 use Rattle.maps.proofs.put_map.Tie as tie

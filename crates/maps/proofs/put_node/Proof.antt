@@ -1,6 +1,6 @@
 -- The calls, one behind the other.
 use Rattle.printing.specs.Laws.{and-then}
-use Rattle.maps.specs.Drawing.{nodeLine}
+use Rattle.drawings.specs.Drawing.{nodeLine}
 use borrow.Author.Needs.{needs}
 use Rattle.maps.proofs.put_node.Statement.{statement}
 use Rattle.maps.proofs.put_node.Tie as tie

@@ -1,6 +1,6 @@
 -- Each test of the code is one of the definition's.
 use borrow.Author.Tests.{le-leb, lt-leb, lt-ltb, ne-eqb}
-use Rattle.maps.specs.Drawing.{isPlain}
+use Rattle.drawings.specs.Drawing.{isPlain}
 use Rattle.maps.proofs.quoted.is_plain.Statement.{statement}
 use Rattle.maps.proofs.quoted.is_plain.Tie as tie
 

@@ -1,6 +1,6 @@
 -- The test of the code is the definition's.
 use borrow.Author.Tests.{lt-ltb, le-ltb}
-use Rattle.maps.specs.Drawing.{hexDigit}
+use Rattle.drawings.specs.Drawing.{hexDigit}
 use borrow.Author.Needs.{needs}
 use Rattle.maps.proofs.quoted.last_digit.Statement.{statement}
 use Rattle.maps.proofs.quoted.last_digit.Tie as tie

@@ -1,7 +1,7 @@
 -- The test of the code is the definition's.
 use borrow.Author.Tests.{eq-eqb, ne-eqb}
 use Rattle.grammar.specs.Numbered.{blockNumber}
-use Rattle.maps.specs.Blocks.{blockName}
+use Rattle.drawings.specs.Blocks.{blockName}
 use borrow.Author.Needs.{needs}
 use Rattle.maps.proofs.quoted.put_block.Statement.{statement}
 use Rattle.maps.proofs.quoted.put_block.Tie as tie

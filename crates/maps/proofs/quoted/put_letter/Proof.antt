@@ -1,7 +1,7 @@
 -- A plain letter is one byte; another is a `\\` and two digits, one behind the other.
 use mathlib.Core.Path.{sym, _∙_}
 use Rattle.printing.specs.Laws.{and-then}
-use Rattle.maps.specs.Drawing.{escape}
+use Rattle.drawings.specs.Drawing.{escape}
 use Rattle.maps.proofs.Letters.{one, plain-letter, other-letter}
 use borrow.Author.Needs.{needs}
 use Rattle.maps.proofs.quoted.put_letter.Statement.{statement}

@@ -7,7 +7,7 @@ use lib.ListN.{length, drop, drop-of-length-le}
 use Rattle.program.specs.Lists.{drop-next}
 use Rattle.printing.specs.Stored.{stored, placed}
 use Rattle.printing.specs.Laws.{went-on}
-use Rattle.maps.specs.Drawing.{letters}
+use Rattle.drawings.specs.Drawing.{letters}
 use borrow.Author.Needs.{needs}
 use Rattle.maps.proofs.quoted.put_letters.Statement.{statement}
 use Rattle.maps.proofs.quoted.put_letters.Tie as tie

@@ -1,7 +1,7 @@
 -- The calls, one behind the other.
 use Rattle.printing.specs.Laws.{and-then}
-use Rattle.maps.specs.Drawing.{inQuotes}
-use Rattle.maps.specs.Blocks.{nameIn}
+use Rattle.drawings.specs.Drawing.{inQuotes}
+use Rattle.drawings.specs.Blocks.{nameIn}
 use borrow.Author.Needs.{needs}
 use Rattle.maps.proofs.quoted.put_name.Statement.{statement}
 use Rattle.maps.proofs.quoted.put_name.Tie as tie

@@ -1,6 +1,6 @@
 -- The calls, one behind the other; a number's digits stand as they are.
 use Rattle.printing.specs.Laws.{and-then}
-use Rattle.maps.specs.Drawing.{inQuotes}
+use Rattle.drawings.specs.Drawing.{inQuotes}
 use Rattle.maps.proofs.Letters.{decimal-letters}
 use borrow.Author.Needs.{needs}
 use Rattle.maps.proofs.quoted.put_number.Statement.{statement}

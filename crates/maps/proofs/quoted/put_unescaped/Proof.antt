@@ -9,7 +9,7 @@ use Rattle.grammar.specs.Lexer.{unescape}
 use Rattle.names.specs.Names.{spelledOf}
 use Rattle.printing.specs.Stored.{stored, placed}
 use Rattle.printing.specs.Laws.{went-on}
-use Rattle.maps.specs.Drawing.{letters}
+use Rattle.drawings.specs.Drawing.{letters}
 use borrow.Author.Needs.{needs}
 use Rattle.maps.proofs.quoted.put_unescaped.Statement.{statement}
 use Rattle.maps.proofs.quoted.put_unescaped.Tie as tie

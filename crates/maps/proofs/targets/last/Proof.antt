@@ -1,7 +1,7 @@
 -- The last node from where the code has come to is the last from the start.
 use mathlib.Core.Path.{_≡_, refl, sym, ap, _∙_}
 use Rattle.steps.specs.Views.{reached}
-use Rattle.maps.specs.Blocks.{lastFrom}
+use Rattle.drawings.specs.Blocks.{lastFrom}
 use Rattle.maps.proofs.Edges.{last-next, last-here, last-done}
 use borrow.Author.Needs.{needs}
 use Rattle.maps.proofs.targets.last.Statement.{statement}

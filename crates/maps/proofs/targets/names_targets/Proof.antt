@@ -1,6 +1,6 @@
 -- The tests of the code are those of the definition, in its order.
 use borrow.Author.Tests.{eq-eqb, ne-eqb}
-use Rattle.maps.specs.Blocks.{branches}
+use Rattle.drawings.specs.Blocks.{branches}
 use Rattle.maps.proofs.targets.names_targets.Statement.{statement}
 use Rattle.maps.proofs.targets.names_targets.Tie as tie
 

@@ -1,6 +1,6 @@
 -- The calls, one behind the other.
 use Rattle.printing.specs.Laws.{and-then}
-use Rattle.maps.specs.Drawing.{edgeLine}
+use Rattle.drawings.specs.Drawing.{edgeLine}
 use borrow.Author.Needs.{needs}
 use Rattle.maps.proofs.targets.put_edge.Statement.{statement}
 use Rattle.maps.proofs.targets.put_edge.Tie as tie

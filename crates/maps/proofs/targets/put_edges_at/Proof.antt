@@ -4,7 +4,7 @@ use borrow.Author.Tests.{not-true, not-false}
 use Rattle.trees.specs.Steps.{kindIn, childrenIn}
 use Rattle.steps.specs.Views.{reached}
 use Rattle.printing.specs.Stored.{stored, placed}
-use Rattle.maps.specs.Blocks.{branches}
+use Rattle.drawings.specs.Blocks.{branches}
 use Rattle.maps.proofs.Edges.{no-targets, targets-there, targets-none}
 use borrow.Author.Needs.{needs}
 use Rattle.maps.proofs.targets.put_edges_at.Statement.{statement}

@@ -7,8 +7,8 @@ use Rattle.trees.specs.Steps.{nextOf}
 use Rattle.steps.specs.Views.{reached}
 use Rattle.printing.specs.Stored.{stored, placed}
 use Rattle.printing.specs.Laws.{went-on}
-use Rattle.maps.specs.Drawing.{edgesTo}
-use Rattle.maps.specs.Blocks.{blockName, namesFrom}
+use Rattle.drawings.specs.Drawing.{edgesTo}
+use Rattle.drawings.specs.Blocks.{blockName, namesFrom}
 use Rattle.maps.proofs.Ends.{done, past}
 use Rattle.maps.proofs.Edges.{edges-next, edges-none, edges-done}
 use borrow.Author.Needs.{needs}

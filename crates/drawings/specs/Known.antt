@@ -15,8 +15,8 @@ use Rattle.trees.specs.Steps.{kindAmong, kindOf, stepTo, behindPayload, childOf
 use Rattle.names.specs.Names.{isQuoted, rawWord}
 use Rattle.steps.specs.Views.{textOf}
 use Rattle.printing.specs.Decimal.{digitsIn, decimal}
-use Rattle.maps.specs.Drawing.{hexDigit, isPlain, escape, letter, letters, inQuotes, nodeLine, edgeLine, nodeOf, edgesTo, edgesOf, linesOf, drawing}
-use Rattle.maps.specs.Blocks.{pieceText, nameIn, blockName, branches, nameHere, namesFrom, lastFrom, targetsAt, targetsIn, firstNode, behindNode, blocksFrom, blocksIn, mapIn}
+use Rattle.drawings.specs.Drawing.{hexDigit, isPlain, escape, letter, letters, inQuotes, nodeLine, edgeLine, nodeOf, edgesTo, edgesOf, linesOf, drawing}
+use Rattle.drawings.specs.Blocks.{pieceText, nameIn, blockName, branches, nameHere, namesFrom, lastFrom, targetsAt, targetsIn, firstNode, behindNode, blocksFrom, blocksIn, mapIn}
 
 -- the map of what a reading leaves
 abbrev mapLeft : List ℕ → Left → List ℕ

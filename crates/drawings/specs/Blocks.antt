@@ -17,7 +17,7 @@ use Rattle.trees.specs.Steps.{kindIn, childrenIn, extentIn, wordAt, childOf, ne
 use Rattle.steps.specs.Views.{textOf}
 use Rattle.names.specs.Names.{rawWord}
 use Rattle.printing.specs.Decimal.{decimal}
-use Rattle.maps.specs.Drawing.{Shown, shown, drawing}
+use Rattle.drawings.specs.Drawing.{Shown, shown, drawing}
 
 -- the text of a piece, as its entry's first word x says, as far as the text reaches
 unfoldable pub pieceText : (text : List ℕ) (x : ℕ) → List ℕ

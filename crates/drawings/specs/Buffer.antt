@@ -7,7 +7,7 @@ use lib.Dec.{leb}
 use lib.ListN.{length}
 use Rattle.records.specs.Limits.{textLimit}
 use Rattle.records.specs.Pieces.{pad}
-use Rattle.maps.specs.Blocks.{mapIn}
+use Rattle.drawings.specs.Blocks.{mapIn}
 
 -- A map of so many bytes, or 27; and the buffer.
 pub data Outcome : Type 0 where

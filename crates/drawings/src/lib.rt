@@ -1,0 +1,1 @@
+// Definitions alone: the block map, what it shows and its text.
