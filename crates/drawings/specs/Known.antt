@@ -35,7 +35,7 @@ pub known-maps :
     -- true before false, repeats kept, a target without a block; a number behind a parameter's
     × (mapped (bytes "void @f(i1){br i1 %0,label %b,label %b a:ret void}") ≡ bytes "digraph {\n\"1\"\n\"a\"\n\"1\" -> \"b\"\n\"1\" -> \"b\"\n}\n")
     -- default before cases
-    × (mapped (bytes "void @f(){x:switch i8 1,label %y[i8 2,label %x i8 3,label %y]}") ≡ bytes "digraph {\n\"x\"\n\"x\" -> \"y\"\n\"x\" -> \"x\"\n\"x\" -> \"y\"\n}\n")
+    × (mapped (bytes "void @f(){x:switch i8 1,label %y[i8 2,label %x i8 3,label %x]}") ≡ bytes "digraph {\n\"x\"\n\"x\" -> \"y\"\n\"x\" -> \"x\"\n\"x\" -> \"x\"\n}\n")
     -- escapes undone, and a quote, a backslash, a byte 0, a byte 31 and a byte 255 escaped; others as they are
     × (mapped (bytes "void @f(){\"\\22\\\\\\00\\1f\\FF~ \\41\":unreachable}") ≡ bytes "digraph {\n\"\\\\22\\\\5C\\\\00\\\\1F\\\\FF~ A\"\n}\n")
     -- labels of `phi` are no targets; the tail is no block; a label keeps its bytes
