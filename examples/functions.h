@@ -31,6 +31,13 @@ static inline size_t next_define(struct text file, size_t at) {
   return at;
 }
 
+/* Whether a text is such a file: it begins with the word, or with the comment that clang prints first. Any other is one function's text. */
+static inline int is_file(struct text whole) {
+  static const char first[] = "; ModuleID";
+  size_t length = sizeof first - 1;
+  return is_define(whole, 0) || (whole.length >= length && memcmp(whole.bytes, first, length) == 0);
+}
+
 /* The text from behind the word at `at` up to the next one, which stands at `end`. */
 static inline struct text behind_define(struct text file, size_t at, size_t end) {
   return (struct text){file.bytes + at + DEFINE_LENGTH, end - at - DEFINE_LENGTH};

@@ -58,12 +58,6 @@ static int show_function(struct text whole, struct text text) {
   return STATUS_REFUSED;
 }
 
-static int is_file(struct text whole) {
-  static const char first[] = "; ModuleID";
-  size_t length = sizeof first - 1;
-  return is_define(whole, 0) || (whole.length >= length && memcmp(whole.bytes, first, length) == 0);
-}
-
 static int show_file(struct text file) {
   size_t at = next_define(file, 0), end;
   int status = STATUS_FINE;

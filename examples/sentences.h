@@ -28,6 +28,9 @@ static inline const char *sentence_of(uint64_t question) {
       [ZIMLOKUR_Q_WORDS] = "The records of the text up to here need more words than were lent.",
       [ZIMLOKUR_Q_ENTRIES] = "The text up to here has more pieces than the directory lent has room for.",
       [ZIMLOKUR_Q_OLDER] = "The older records are not such as a reading leaves: read the whole text anew.",
+      [ZIMLOKUR_Q_RULE] = "An account class is 0 to 3, and a rule's first channel is not above its last: this is not so here.",
+      [ZIMLOKUR_Q_OVERLAP] = "Two rules of one account class have a channel in common: this is the later one of them.",
+      [ZIMLOKUR_Q_GAP] = "No rule of this account class covers this channel: each class needs a rule for every channel from 0 to 65,535.",
       [ZIMLOKUR_Q_COUNTER] = "The number that belongs here is below the next free one or not below 2^32, or a label stands behind an instruction.",
       [ZIMLOKUR_Q_OUTPUT] = "What would be written is longer than the room for it, or than 16,777,216 bytes.",
   };

@@ -44,15 +44,20 @@ enum zimlokur_question {
     ZIMLOKUR_Q_WORDS = 20,
     ZIMLOKUR_Q_ENTRIES = 21,
     ZIMLOKUR_Q_OLDER = 22,
+    ZIMLOKUR_Q_RULE = 23,
+    ZIMLOKUR_Q_OVERLAP = 24,
+    ZIMLOKUR_Q_GAP = 25,
     ZIMLOKUR_Q_COUNTER = 26,
     ZIMLOKUR_Q_OUTPUT = 27
 };
 
 /* How deep types and values nest at most: question 16 refuses what stands deeper. A tree has at most three nodes above them.
- * How many words of the directory an entry has. */
+ * How many words of the directory an entry has. The last account class and the last channel. */
 enum zimlokur_limit {
     ZIMLOKUR_DEPTH_LIMIT = 19,
-    ZIMLOKUR_ENTRY_WORDS = 3
+    ZIMLOKUR_ENTRY_WORDS = 3,
+    ZIMLOKUR_CLASS_LIMIT = 3,
+    ZIMLOKUR_CHANNEL_LIMIT = 65535
 };
 
 /* Kinds of nodes: the upper 8 bits of a header. */
@@ -236,6 +241,49 @@ uint64_t zimlokur_name(const uint8_t *piece, size_t piece_len, uint64_t name, ui
  */
 uint64_t zimlokur_block_map(const uint8_t *text, size_t text_len, const uint64_t *words, size_t words_len, const uint64_t *directory,
                             size_t directory_len, uint64_t entries, uint8_t *map, size_t map_len, uint64_t *place, uint64_t *length);
+
+/* A rule of the table of who may fire what: an account class, 0 to 3, may fire the channels from first to last, both of them included, or may
+ * not: `allowed` is 0 for no, anything else is yes. */
+struct zimlokur_rule {
+    uint8_t account_class;
+    uint8_t allowed;
+    uint16_t first;
+    uint16_t last;
+};
+
+/* What the table says of a call to @fire. Undecided: which channel it fires is not written there. None: there is no such call. */
+enum zimlokur_answer {
+    ZIMLOKUR_ANSWER_NO = 0,
+    ZIMLOKUR_ANSWER_YES = 1,
+    ZIMLOKUR_ANSWER_UNDECIDED = 2,
+    ZIMLOKUR_ANSWER_NONE = 3
+};
+
+/* Whether one account class may fire the channel of the n-th call to @fire of a function, counted from 0 in record order. Text, records and
+ * `entries` are those of its reading.
+ *
+ * In a table that is not refused every class has each channel from 0 to 65,535 in exactly one rule, in whatever order the rules stand.
+ * Returns 0, with 0 in *place and the answer in *answer: ZIMLOKUR_ANSWER_NONE past the last call, whatever n;
+ *   ZIMLOKUR_ANSWER_UNDECIDED exactly where the call's first argument is absent or no integer constant from 0 to 65,535; else
+ *   ZIMLOKUR_ANSWER_YES or ZIMLOKUR_ANSWER_NO as the one rule of that class says that covers the channel. The other classes' rules have no say.
+ * Returns the number of the question that refuses the table, with its place in *place and ZIMLOKUR_ANSWER_NONE in *answer. In this order, and
+ *   before any function is looked at:
+ *   ZIMLOKUR_Q_RULE (23), place 0: the class asked for is above 3;
+ *   ZIMLOKUR_Q_RULE (23): the earliest rule, by its number from 0, whose class is above 3 or whose first channel is above its last;
+ *   ZIMLOKUR_Q_OVERLAP (24): two rules of one class, the one asked for or another, share a channel; of such pairs the lowest by its earlier rule,
+ *     then by its later one, and the place is the later one's number;
+ *   ZIMLOKUR_Q_GAP (25): a class has a channel that no rule covers; the lowest class times 65,536 plus the channel.
+ * A call to @fire is a `call`, with `tail` or a function type or without, whose callee is the global of that name, quotes and escapes undone:
+ *   @"fire" and @"\66ire" too, but not %fire, not a cast of @fire, not @fire as an argument; whether or not it can be reached.
+ * THE CONSTANT IS TAKEN AS IT IS WRITTEN, whatever its type: `call void @fire(i8 300)` is channel 300 here, while 44 is what fires, since a
+ *   machine takes 300 modulo 256. So a yes for 300 lets 44 be fired, which the class may be forbidden. `i16 -1` is undecided, and fires 65,535;
+ *   clang writes 16-bit constants from 32,768 on so, fire(65535) as `i16 -1`. `i1 true` is 1 in both. Who takes cues that no compiler
+ *   wrote looks at each constant's type, too, as examples/rules.c does.
+ * Any rules, records and count may be lent: nothing undefined happens, and nothing but *place and *answer is written.
+ */
+uint64_t zimlokur_channel(const struct zimlokur_rule *rules, size_t rules_len, uint64_t account_class, uint64_t n, const uint8_t *text,
+                          size_t text_len, const uint64_t *words, size_t words_len, const uint64_t *directory, size_t directory_len,
+                          uint64_t entries, uint64_t *place, uint64_t *answer);
 
 #ifdef __cplusplus
 }

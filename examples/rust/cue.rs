@@ -1,6 +1,6 @@
 //! Reads the cue on standard input, a function's text from behind the word `define`, and prints the number of its pieces, its name, the
-//! number of its nodes, and how many edges its block map has, or the refusal. Then the same text is read again as an edit of itself, of which
-//! at most the tail is read.
+//! number of its nodes, how many edges its block map has, and what a small table of rules says of its calls to `@fire`, or the refusal. Then
+//! the same text is read again as an edit of itself, of which at most the tail is read.
 //! Exits 0 if the cue is accepted, 1 if it is refused, 2 without a cue.
 //!
 //!     rustc --edition 2021 -L native=target/staticlib -l static=zimlokur examples/rust/cue.rs -o target/cue-rust
@@ -48,6 +48,35 @@ fn count_edges(map: &[u8]) -> usize {
     map.split(|&byte| byte == b'\n').filter(|line| line.windows(6).any(|part| part == b"\" -> \"")).count()
 }
 
+/// Everyone may fire the channels up to this one, and no other.
+const LAST_ALLOWED: u16 = 99;
+
+fn small_table() -> Vec<zimlokur::Rule> {
+    let rule = |account_class, allowed, first, last| zimlokur::Rule { account_class, allowed, first, last };
+    let both = |class| [rule(class, 1, 0, LAST_ALLOWED), rule(class, 0, LAST_ALLOWED + 1, u16::MAX)];
+    (0..4).flat_map(both).collect()
+}
+
+/// How many calls to `@fire` the table lets account class 0 make, and how many it does not or cannot tell.
+fn count_fires(
+    cue: &[u8],
+    words: &[u64],
+    directory: &[u64],
+    entries: u64,
+) -> Result<(usize, usize, usize), zimlokur::Refusal> {
+    let rules = small_table();
+    let (mut yes, mut no, mut undecided) = (0, 0, 0);
+    for n in 0.. {
+        match zimlokur::channel(&rules, 0, n, cue, words, directory, entries)? {
+            Some(zimlokur::Said::Yes) => yes += 1,
+            Some(zimlokur::Said::No) => no += 1,
+            Some(zimlokur::Said::Undecided) => undecided += 1,
+            None => break,
+        }
+    }
+    Ok((yes, no, undecided))
+}
+
 /// What is printed of the cue; a refusal is the second kind.
 fn read(cue: &[u8]) -> Result<String, String> {
     let mut words = vec![0; 2 * cue.len() + 16];
@@ -62,10 +91,11 @@ fn read(cue: &[u8]) -> Result<String, String> {
     let mut map = vec![0; MOST_MAP_BYTES];
     let map = zimlokur::block_map(cue, &words, &directory, entries, &mut map).map_err(refused)?;
     let edges = count_edges(map);
+    let (yes, no, undecided) = count_fires(cue, &words, &directory, entries).map_err(refused)?;
     let again = zimlokur::reparse_define(cue, cue, &mut words, &mut directory, entries).map_err(refused)?;
     Ok(format!(
-        "pieces {}\n@{} has {} nodes\nits map has {} edges\nagain: pieces {} first {} read {}",
-        entries, name, nodes, edges, again.entries, again.first, again.read
+        "pieces {}\n@{} has {} nodes\nits map has {} edges\ncalls to @fire: {} yes, {} no, {} undecided\nagain: pieces {} first {} read {}",
+        entries, name, nodes, edges, yes, no, undecided, again.entries, again.first, again.read
     ))
 }
 

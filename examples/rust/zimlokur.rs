@@ -23,6 +23,25 @@ pub struct Position {
     pub column: u64,
 }
 
+/// A rule of the table of who may fire what: an account class, 0 to 3, may fire the channels from first to last, or may not. It is laid out
+/// as in C, and `allowed` is 0 for no.
+#[repr(C)]
+#[derive(Debug, Clone, Copy, PartialEq, Eq)]
+pub struct Rule {
+    pub account_class: u8,
+    pub allowed: u8,
+    pub first: u16,
+    pub last: u16,
+}
+
+/// What a table says of a call to `@fire`: no, yes, or that its channel is not written there.
+#[derive(Debug, Clone, Copy, PartialEq, Eq)]
+pub enum Said {
+    No,
+    Yes,
+    Undecided,
+}
+
 extern "C" {
     fn zimlokur_parse_define(
         text: *const u8,
@@ -72,6 +91,22 @@ extern "C" {
         map_len: usize,
         place: *mut u64,
         length: *mut u64,
+    ) -> u64;
+
+    fn zimlokur_channel(
+        rules: *const Rule,
+        rules_len: usize,
+        account_class: u64,
+        n: u64,
+        text: *const u8,
+        text_len: usize,
+        words: *const u64,
+        words_len: usize,
+        directory: *const u64,
+        directory_len: usize,
+        entries: u64,
+        place: *mut u64,
+        answer: *mut u64,
     ) -> u64;
 }
 
@@ -192,4 +227,44 @@ pub fn block_map<'a>(
         )
     };
     answer(question, place, &map[..length as usize])
+}
+
+/// What a table says of the n-th call to `@fire` for one account class; none past the last call. Text, records and count are those of an
+/// accepted reading; any others may be lent, too. Refused with 23, 24 or 25 where the table is. A constant is taken as it is written: `i8 300`
+/// is channel 300 here, while 44 is what fires.
+pub fn channel(
+    rules: &[Rule],
+    account_class: u64,
+    n: u64,
+    text: &[u8],
+    words: &[u64],
+    directory: &[u64],
+    entries: u64,
+) -> Result<Option<Said>, Refusal> {
+    let (mut place, mut said) = (0, 0);
+    // SAFETY: as above.
+    let question = unsafe {
+        zimlokur_channel(
+            rules.as_ptr(),
+            rules.len(),
+            account_class,
+            n,
+            text.as_ptr(),
+            text.len(),
+            words.as_ptr(),
+            words.len(),
+            directory.as_ptr(),
+            directory.len(),
+            entries,
+            &mut place,
+            &mut said,
+        )
+    };
+    let said = match said {
+        0 => Some(Said::No),
+        1 => Some(Said::Yes),
+        2 => Some(Said::Undecided),
+        _ => None,
+    };
+    answer(question, place, said)
 }

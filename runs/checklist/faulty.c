@@ -1,5 +1,6 @@
 /* Readers with one fault each: the library's calls, wrapped by the linker (--wrap), and their answer spoiled in the way that FAULT in the
- * environment names. The checks of `checklist` must find each of them, and `walk` and `map` must stay inside their arrays and the text. */
+ * environment names. The checks of `checklist` must find each of them, and `walk`, `map` and `rules` must stay inside their arrays and the
+ * text. */
 #include "zimlokur.h"
 
 #include <stdlib.h>

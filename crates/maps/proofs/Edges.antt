@@ -1,4 +1,4 @@
--- Nodes are named one behind the other, each by the step from the one before; a name's header stands only inside the array.
+-- Nodes are named one behind the other, each by the step from the one before.
 -- Assumes nothing.
 use mathlib.Core.Path.{_≡_, refl, sym, ap, _∙_}
 use mathlib.Core.Bool.{Bool, true, false}
@@ -6,9 +6,8 @@ use mathlib.Core.List.{List, [], _∷_, _++_, append-assoc, append-nil}
 use mathlib.Core.Option.{Option, none, some}
 use Prim.Native.Nat.{ℕ, zero, suc, _+_, _-_, _≤_, _<_}
 use native.Mathlib.Omega.{arith}
-use lib.Dec.{ltb}
-use lib.ListN.{length, List·getD-eq-default}
-use borrow.Author.Tests.{ltb-true, ltb-false, eq-eqb, ne-eqb}
+use lib.ListN.{length}
+use borrow.Author.Tests.{eq-eqb, ne-eqb}
 use Rattle.records.specs.Kinds.{kind, Name}
 use Rattle.trees.specs.Steps.{kindIn, childrenIn, wordAt, childOf, nextOf}
 use Rattle.drawings.specs.Drawing.{edgeLine, edgesTo}
@@ -29,16 +28,6 @@ pub last-done : (m : ℕ) (ws : List ℕ) (at : ℕ) → m ≤ 0 → lastFrom m 
 unfolding lastFrom
 last-done zero ws at h = refl
 last-done (suc m) ws at h = absurd (omega arith)
-
--- a name stands inside the array: past it every word is 0, and no kind
-pub name-inside : (ws : List ℕ) (at : ℕ) → kindIn (wordAt ws at) ≡ kind Name → at < length ws
-name-inside ws at e = go (ltb at (length ws)) refl
-  where
-    go : (t : Bool) → ltb at (length ws) ≡ t → at < length ws
-    go true f = ltb-true _ _ f
-    go false f =
-        let z : kindIn 0 ≡ kind Name = sym (ap kindIn (List·getD-eq-default ws 0 (ltb-false _ _ f))) ∙ e in
-        absurd (omega (arith, z))
 
 -- the edge to the node at a place, whose kind is k
 pub edge-here : (x piece ws : List ℕ) (at : ℕ) {k : ℕ} → k ≡ kindIn (wordAt ws at) → k ≡ kind Name → edgesTo x (nameHere piece ws at) ≡ edgeLine x (nameIn piece (wordAt ws (at + 1)))

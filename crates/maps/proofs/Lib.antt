@@ -1,5 +1,5 @@
 pub mod Letters
-pub mod Cuts
+pub mod Zeros
 pub mod Ends
 pub mod Edges
 pub mod Lines

@@ -14,7 +14,7 @@ use Rattle.records.specs.Pieces.{pad}
 use Rattle.printing.specs.Stored.{stored, placed}
 use Rattle.printing.specs.Laws.{placed-whole, placed-over, stored-whole}
 use Rattle.drawings.specs.Buffer.{drawn, too-long, outcome}
-use Rattle.maps.proofs.Cuts.{cleared}
+use Rattle.maps.proofs.Zeros.{cleared}
 
 module _ (text out : List ℕ) (n : ℕ) (p : n ≡ placed 0 text) where
   -- an end within the limit is the text's length

@@ -12,7 +12,7 @@ ghost use lib.ListN.{length, take, drop, replicate};
 ghost use Rattle.records.specs.Limits.{entryWords};
 ghost use Rattle.printing.specs.Stored.{Stores};
 ghost use Rattle.drawings.specs.Drawing.{nodeLine, linesOf};
-ghost use Rattle.drawings.specs.Blocks.{pieceText, blockName, firstNode, behindNode, blocksFrom, mapIn};
+ghost use Rattle.drawings.specs.Blocks.{blockName, behindNode, blocksFrom, mapIn};
 ghost use Rattle.drawings.specs.Buffer.{blockMap};
 ghost use Rattle.maps.specs.Views.{sortOfLines, drawnBy};
 
@@ -20,38 +20,6 @@ ghost use Rattle.maps.specs.Views.{sortOfLines, drawnBy};
 pub enum Drawn {
     Map(usize),
     TooLong,
-}
-
-// The text of a piece, as its entry's first word says, as far as the text reaches.
-fn piece_text(text: &[u8], x: u64) -> &[u8]
-    ensures { λ r. ⌜ now r ≡ pieceText (now (text .entry)) x ⌝ }
-{
-    let start = keywords::least((x / records::HALF) as usize, text.len());
-    let end = start + keywords::least((x % records::HALF) as usize, text.len() - start);
-    &text[start..end]
-}
-
-// Where the node that begins at a place ends: behind as many words as its header says, or at the array's end.
-fn behind_node(words: &[u64], at: usize) -> usize
-    ensures { λ r. ⌜ drop r (now (words .entry)) ≡ behindNode (drop at (now (words .entry))) ⌝ }
-{
-    if words.len() <= at {
-        return at;
-    }
-    let extent = (words[at] % records::HALF) as usize;
-    at + keywords::least(extent, words.len() - at)
-}
-
-// Its words.
-fn node_at(words: &[u64], at: usize) -> &[u64]
-    ensures { λ r. ⌜ now r ≡ firstNode (drop at (now (words .entry))) ⌝ }
-{
-    if words.len() <= at {
-        return &words[0..0];
-    }
-    let extent = (words[at] % records::HALF) as usize;
-    let end = at + keywords::least(extent, words.len() - at);
-    &words[at..end]
 }
 
 // The line of a node.
@@ -77,7 +45,7 @@ fn put_lines(
 {
     let mut k = at;
     let mut i: usize = 0;
-    let mut w = behind_node(words, 0);
+    let mut w = cuts::behind_node(words, 0);
     while i < n {
         if directory.len() / records::ENTRY_WORDS <= i + 1 {
             return k;
@@ -85,8 +53,8 @@ fn put_lines(
         if k == PAST {
             return k;
         }
-        let own = node_at(words, w);
-        let piece = piece_text(text, directory[(i + 1) * records::ENTRY_WORDS]);
+        let own = cuts::node_at(words, w);
+        let piece = cuts::piece_text(text, directory[(i + 1) * records::ENTRY_WORDS]);
         let label = Label {
             number: directory[(i + 1) * records::ENTRY_WORDS + 2],
             word: steps::word_at(own, 1),
@@ -96,7 +64,7 @@ fn put_lines(
         } else {
             k = put_node(out, k, piece, label);
         }
-        w = behind_node(words, w);
+        w = cuts::behind_node(words, w);
         i += 1;
     }
     k

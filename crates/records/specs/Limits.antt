@@ -53,3 +53,10 @@ counterLimit = 4294967296
 -- question 21: the words of a directory entry (M-106: "Directory entries gain a third word")
 abbrev pub entryWords : ℕ
 entryWords = 3
+
+-- questions 23 to 25: the highest class, and the highest channel (M-102: "class 0 to 3", "channels 0 to 65,535")
+abbrev pub classLimit : ℕ
+classLimit = 3
+
+abbrev pub channelLimit : ℕ
+channelLimit = 65535

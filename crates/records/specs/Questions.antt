@@ -84,3 +84,13 @@ qOlder = 22
 -- Writing a text into a lent buffer, place 0 (M-109; "27: the text is longer than the lent buffer or 16,777,216 bytes"):
 abbrev pub qOutput : ℕ  -- Has the text at most as many bytes as the buffer, and at most 16,777,216?
 qOutput = 27
+
+-- Of a table of rules, in this order, before any function (M-102):
+abbrev pub qRule : ℕ  -- Is the class asked for at most 3 (place 0), and each rule's too, with its first channel not above its last (its number)?
+qRule = 23
+
+abbrev pub qOverlap : ℕ  -- Do no two rules of a class share a channel? (the later's number, "of the pair lowest by earlier, then later")
+qOverlap = 24
+
+abbrev pub qGap : ℕ  -- Does each class cover all channels? ("the lowest class × 65,536 + channel")
+qGap = 25

@@ -186,6 +186,12 @@ pub const Q_ENTRIES: u64 = 21;
 
 pub const Q_OLDER: u64 = 22;
 
+pub const Q_RULE: u64 = 23;
+
+pub const Q_OVERLAP: u64 = 24;
+
+pub const Q_GAP: u64 = 25;
+
 pub const Q_COUNTER: u64 = 26;
 
 pub const Q_OUTPUT: u64 = 27;
@@ -216,6 +222,10 @@ pub const HALF_LIMIT: usize = 4294967296; // question 20: words end below it; ha
 pub const COUNTER_LIMIT: u64 = 4294967296; // question 26: the most that the counter can be; numbers are below it
 
 pub const ENTRY_WORDS: usize = 3; // question 21: the words of a directory entry
+
+pub const CLASS_LIMIT: u8 = 3; // questions 23 to 25: the highest class
+
+pub const CHANNEL_LIMIT: u16 = 65535; // questions 23 to 25: the highest channel
 
 // A header has its kind, detail and number of children in these units above its number of words. Other packed words have two halves.
 pub const KIND_UNIT: u64 = 72057594037927936; // 2^56

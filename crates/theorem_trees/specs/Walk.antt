@@ -92,6 +92,10 @@ module _ (ws : List ℕ) (at : ℕ) (k : Kind) (d : ℕ) (p : List ℕ) (cs : Tr
   unfolding h
   kind-here = rw word (kind-in (kind k) d (howMany cs) (suc (length (p ++ treeWords cs))) (low .0) (low .1) small)
 
+  pub detail-here : detailIn (wordAt ws at) ≡ d
+  unfolding h
+  detail-here = rw word (detail-in (kind k) d (howMany cs) (suc (length (p ++ treeWords cs))) (low .0) (low .1) small)
+
   is-header : isHeader (wordAt ws at) ≡ true
   is-header = rw extent (lt-ltb 0 (suc (length (p ++ treeWords cs))) (omega arith))
 
@@ -117,10 +121,8 @@ module _ (ws : List ℕ) (at : ℕ) (k : Kind) (d : ℕ) (p : List ℕ) (cs : Tr
       go (fits m t a s y b c) = rw (first (p ++ (treeWords cs ++ r)) behind-header) (sym (measured n k d m p (treeWords cs ++ r) a))
 
   behind-payload : behindPayload ws at k ≡ at + (1 + length p)
-  unfolding behindPayload h
-  behind-payload =
-      let e : detailIn (wordAt ws at) ≡ d = rw word (detail-in (kind k) d (howMany cs) (suc (length (p ++ treeWords cs))) (low .0) (low .1) small) in
-      rw (e, payload)
+  unfolding behindPayload
+  behind-payload = rw (detail-here, payload)
 
   pub children-from : drop (at + (1 + length p)) ws ≡ treeWords cs ++ r
   children-from =

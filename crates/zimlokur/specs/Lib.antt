@@ -3,3 +3,4 @@ pub mod Zero
 pub mod Afternoon
 pub mod Walk
 pub mod Map
+pub mod Channel

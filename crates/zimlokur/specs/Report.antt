@@ -7,6 +7,9 @@ use Rattle.records.specs.Questions.{qOutput}
 use Rattle.records.specs.Pieces.{Answer, refusedAt, count, Left, left, Again, again-left}
 use Rattle.trees.specs.Steps.{Part, part}
 use Rattle.drawings.specs.Buffer.{Outcome, drawn, too-long}
+use Rattle.rules.specs.declared.Told.{Told}
+use Rattle.rules.specs.declared.Told.the-variants as told
+use Rattle.rules.specs.Answers.{answerNone}
 
 -- the question that refuses, or 0; the place, 0 where it is accepted; the entry count, 0 where it is refused
 abbrev pub questionOf : Answer → ℕ
@@ -43,3 +46,8 @@ pub data ReportsPart : Option Part → (r start length : ℕ) → Type 0 where
 pub data ReportsMap : Outcome → (r place length : ℕ) (map : List ℕ) → Type 0 where
   mapped : {length : ℕ} {map : List ℕ} → ReportsMap (drawn length map) 0 0 length map
   no-map : {map : List ℕ} → ReportsMap (too-long map) qOutput 0 0 map
+
+-- Channel rules: 0, place 0 and the answer; or the number of the question that refuses the table, its place, and the answer for none.
+pub data ReportsChannel : Told → (r place answer : ℕ) → Type 0 where
+  answered : {a : ℕ} → ReportsChannel (told.Answer a) 0 0 a
+  turned-away : {q p : ℕ} → ReportsChannel (told.Refused q p) q p answerNone

@@ -2,6 +2,8 @@
 use maps::Drawn;
 use reading::Answer;
 use reading::Reread;
+use rules::Rule;
+use rules::Told;
 use steps::Step;
 use steps::names::Text;
 ghost use mathlib.Core.Path.{_≡_};
@@ -10,7 +12,8 @@ ghost use Rattle.grammar.specs.Function.{readingOf, rereadingOf};
 ghost use Rattle.lines.specs.Place.{positionOf};
 ghost use Rattle.trees.specs.Steps.{childOf, nextOf, partOf};
 ghost use Rattle.drawings.specs.Buffer.{blockMap};
-ghost use Rattle.zimlokur.specs.Report.{Reports, ReportsAgain, ReportsStep, ReportsPart, ReportsMap};
+ghost use Rattle.rules.specs.Answers.{channelRule};
+ghost use Rattle.zimlokur.specs.Report.{Reports, ReportsAgain, ReportsStep, ReportsPart, ReportsMap, ReportsChannel};
 
 // The full reading. Returns 0, or the number of the question that refuses; then both arrays are zero.
 #[no_mangle]
@@ -158,4 +161,43 @@ pub extern "C" fn zimlokur_block_map(
             records::Q_OUTPUT
         }
     }
+}
+
+// What is told of a call, in numbers.
+fn report(told: Told, place: &mut u64, answer: &mut u64) -> u64
+    ensures { λ r. ⌜ ReportsChannel told r (now (place .exit)) (now (answer .exit)) ⌝ }
+{
+    match told {
+        Told::Answer(a) => {
+            *place = 0;
+            *answer = a;
+            0
+        }
+        Told::Refused(q, p) => {
+            *place = p;
+            *answer = rules::ANSWER_NONE;
+            q
+        }
+    }
+}
+
+// May a class fire what the n-th call to `@fire` names? Returns 0 with the answer, or the number of the question that refuses the table.
+// The borrow checker covers no function that is lent a slice of structs: this one is proved by a walk of its code, and only calls others.
+#[no_mangle]
+pub extern "C" fn zimlokur_channel(
+    rules: &[Rule],
+    account_class: u64,
+    n: u64,
+    text: &[u8],
+    words: &[u64],
+    directory: &[u64],
+    entries: u64,
+    place: &mut u64,
+    answer: &mut u64,
+) -> u64
+    ensures { λ r. ⌜ ReportsChannel (channelRule «account_class» n entries (now (rules .entry)) (now (text .entry)) (now (words .entry)) (now (directory .entry))) r (now (place .exit)) (now (answer .exit)) ⌝ }
+{
+    let fired = fires::fired(text, words, directory, entries, n);
+    let told = tables::judged(rules, account_class, fired);
+    report(told, place, answer)
 }

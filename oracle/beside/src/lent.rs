@@ -1,5 +1,7 @@
 //! Arrays and buffers to lend and places of results, with guards on both sides that no reader may touch.
 
+use texts::rules::Rule;
+
 const GUARD: u64 = 0xdead_beef_dead_beef;
 const GUARDS: usize = 8;
 
@@ -89,5 +91,28 @@ impl LentBytes {
     pub fn guarded(&self) -> bool {
         let end = self.0.len() - GUARD_BYTES;
         self.0[..GUARD_BYTES].iter().chain(&self.0[end..]).all(|&b| b == GUARD_BYTE)
+    }
+}
+
+/// A table of rules.
+#[derive(Clone, Debug)]
+pub struct LentRules(Vec<Rule>);
+
+/// No rule: one that reads it refuses the table.
+const GUARD_RULE: Rule = Rule { account_class: 0xd7, allowed: 0xd7, first: 0xd7d7, last: 0 };
+
+impl LentRules {
+    pub fn holding(rules: &[Rule]) -> LentRules {
+        let guard = [GUARD_RULE; GUARDS];
+        LentRules([&guard, rules, &guard].concat())
+    }
+
+    pub fn rules(&self) -> &[Rule] {
+        &self.0[GUARDS..self.0.len() - GUARDS]
+    }
+
+    pub fn guarded(&self) -> bool {
+        let end = self.0.len() - GUARDS;
+        self.0[..GUARDS].iter().chain(&self.0[end..]).all(|&rule| rule == GUARD_RULE)
     }
 }

@@ -3,8 +3,10 @@
 
 pub mod afternoon;
 pub mod big;
+pub mod channels;
 pub mod check;
 pub mod dot;
+mod hostile;
 pub mod lent;
 pub mod llvm;
 pub mod long;

@@ -2,7 +2,8 @@
 //! numbers and slices, and every result is compared.
 
 use crate::lent::UNSET;
-use crate::port::{Function, Parsed, Port, Reparsed};
+use crate::port::{Asked, Function, Parsed, Port, Reparsed};
+use texts::rules::Rule;
 
 extern "C" {
     fn zimlokur_parse_define(
@@ -54,6 +55,22 @@ extern "C" {
         map_len: usize,
         place: *mut u64,
         length: *mut u64,
+    ) -> u64;
+
+    fn zimlokur_channel(
+        rules: *const Rule,
+        rules_len: usize,
+        account_class: u64,
+        n: u64,
+        text: *const u8,
+        text_len: usize,
+        words: *const u64,
+        words_len: usize,
+        directory: *const u64,
+        directory_len: usize,
+        entries: u64,
+        place: *mut u64,
+        answer: *mut u64,
     ) -> u64;
 }
 
@@ -150,6 +167,27 @@ impl Port for Library {
                 map.len(),
                 place,
                 length,
+            )
+        }
+    }
+    fn channel(&self, asked: Asked, of: Function, place: &mut u64, answer: &mut u64) -> u64 {
+        let Asked { rules, class, n } = asked;
+        let Function { text, words, directory, entries } = of;
+        unsafe {
+            zimlokur_channel(
+                rules.as_ptr(),
+                rules.len(),
+                class,
+                n,
+                text.as_ptr(),
+                text.len(),
+                words.as_ptr(),
+                words.len(),
+                directory.as_ptr(),
+                directory.len(),
+                entries,
+                place,
+                answer,
             )
         }
     }

@@ -1,7 +1,8 @@
 //! The calls of the static library, as a trait: the library itself, the model, and wrong readers
 //! to try the comparison on.
 
-use model::{map, steps};
+use model::{channels, map, steps};
+use texts::rules::Rule;
 
 /// `zimlokur_parse_define`: 0 or the refusal's number, and what it stored.
 #[derive(Clone, Copy, Debug, PartialEq, Eq)]
@@ -28,6 +29,14 @@ pub struct Function<'a> {
     pub words: &'a [u64],
     pub directory: &'a [u64],
     pub entries: u64,
+}
+
+/// What is asked of a table of rules (M-102): the account class, and which call to `@fire`.
+#[derive(Clone, Copy, Debug)]
+pub struct Asked<'a> {
+    pub rules: &'a [Rule],
+    pub class: u64,
+    pub n: u64,
 }
 
 pub trait Port: Sync {
@@ -59,6 +68,9 @@ pub trait Port: Sync {
 
     /// `zimlokur_block_map`: 0, or 27, with place and length (M-109).
     fn block_map(&self, of: Function, map: &mut [u8], place: &mut u64, length: &mut u64) -> u64;
+
+    /// `zimlokur_channel`: 0 with the answer, or the question that refuses the table, with its place (M-102).
+    fn channel(&self, asked: Asked, of: Function, place: &mut u64, answer: &mut u64) -> u64;
 }
 
 /// The model as a port.
@@ -123,5 +135,11 @@ impl Port for Model {
         *length = written.unwrap_or(0) as u64;
         *place = written.map_or_else(|r| r.place as u64, |_| 0);
         written.map_or_else(|r| r.number, |_| 0)
+    }
+    fn channel(&self, asked: Asked, of: Function, place: &mut u64, answer: &mut u64) -> u64 {
+        let channels = channels::of_records(of.text, of.words, of.directory, of.entries);
+        let number;
+        (number, *place, *answer) = channels::said(asked.rules, asked.class, &channels, asked.n);
+        number
     }
 }

@@ -1,7 +1,7 @@
 //! The comparison of block maps (M-109) on wrong ones: each must be caught.
 
 use beside::map;
-use beside::port::{Function, Model, Parsed, Port, Reparsed};
+use beside::port::{Asked, Function, Model, Parsed, Port, Reparsed};
 use judge::answer::on_big_stack;
 use model::full::ENTRY_WORDS;
 use model::map::{block, fill, of_records, written, Block, Letters, LENGTH};
@@ -259,6 +259,10 @@ impl Port for Wrong {
 
     fn name(&self, piece: &[u8], name: u64, start: &mut u64, length: &mut u64) -> u64 {
         Model.name(piece, name, start, length)
+    }
+
+    fn channel(&self, asked: Asked, of: Function, place: &mut u64, answer: &mut u64) -> u64 {
+        Model.channel(asked, of, place, answer)
     }
 
     fn block_map(&self, of: Function, map: &mut [u8], place: &mut u64, length: &mut u64) -> u64 {

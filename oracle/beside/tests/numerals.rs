@@ -3,7 +3,7 @@
 
 use beside::check;
 use beside::long::{self, Long};
-use beside::port::{Function, Model, Parsed, Port, Reparsed};
+use beside::port::{Asked, Function, Model, Parsed, Port, Reparsed};
 use judge::answer::on_big_stack;
 use judge::form::header;
 use model::fold;
@@ -93,6 +93,10 @@ impl Port for Wrong {
 
     fn name(&self, _: &[u8], _: u64, _: &mut u64, _: &mut u64) -> u64 {
         unreachable!("no step is made")
+    }
+
+    fn channel(&self, asked: Asked, of: Function, place: &mut u64, answer: &mut u64) -> u64 {
+        Model.channel(asked, of, place, answer)
     }
 
     fn block_map(&self, of: Function, map: &mut [u8], place: &mut u64, length: &mut u64) -> u64 {

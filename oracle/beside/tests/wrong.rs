@@ -1,6 +1,6 @@
 //! The comparison on wrong readers: each must be caught.
 
-use beside::port::{Function, Model, Parsed, Port, Reparsed};
+use beside::port::{Asked, Function, Model, Parsed, Port, Reparsed};
 use beside::{afternoon, check, reread, rooms, walk};
 use judge::answer::on_big_stack;
 use judge::walk::{entry, ENTRY_WORDS};
@@ -181,6 +181,10 @@ impl Port for Wrong {
         let found = self.wrong_name(piece, name);
         (*start, *length) = found.unwrap_or((0, 0));
         u64::from(found.is_some())
+    }
+
+    fn channel(&self, asked: Asked, of: Function, place: &mut u64, answer: &mut u64) -> u64 {
+        Model.channel(asked, of, place, answer)
     }
 
     fn block_map(&self, of: Function, map: &mut [u8], place: &mut u64, length: &mut u64) -> u64 {

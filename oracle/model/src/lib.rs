@@ -4,6 +4,7 @@
 pub mod beside;
 pub mod body;
 pub mod calls;
+pub mod channels;
 pub mod counter;
 pub mod fold;
 pub mod full;

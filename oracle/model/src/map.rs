@@ -61,7 +61,7 @@ pub fn of_text(text: &[u8]) -> Option<Vec<Block>> {
 }
 
 /// The bytes that the reader makes of a name.
-fn as_read(name: Name) -> Letters {
+pub(crate) fn as_read(name: Name) -> Letters {
     letters(&Cursor::new(name.text).name().expect("it has been read").bytes)
 }
 
@@ -82,7 +82,7 @@ pub fn of_records(text: &[u8], words: &[u64], directory: &[u64], entries: u64) -
 }
 
 /// The words behind the node that stands first, by its extent.
-fn behind(words: &[u64]) -> &[u64] {
+pub(crate) fn behind(words: &[u64]) -> &[u64] {
     let extent = words.first().map_or(0, |&word| Header::of(word).extent);
     &words[words.len().min(extent as usize)..]
 }
@@ -99,12 +99,12 @@ pub fn block(text: &[u8], entry: &[u64], own: &[u64]) -> Block {
 }
 
 /// A word, 0 past the last.
-fn word(own: &[u64], at: u64) -> u64 {
+pub(crate) fn word(own: &[u64], at: u64) -> u64 {
     usize::try_from(at).ok().and_then(|at| own.get(at)).copied().unwrap_or(0)
 }
 
 /// The part of a text that a word names, as far as the text reaches.
-fn part(text: &[u8], word: u64) -> &[u8] {
+pub(crate) fn part(text: &[u8], word: u64) -> &[u8] {
     let (start, length) = ((word >> 32) as usize, word as u32 as usize);
     let from = &text[start.min(text.len())..];
     &from[..length.min(from.len())]
@@ -136,7 +136,7 @@ fn targets(own: &[u64]) -> impl Iterator<Item = u64> + '_ {
 }
 
 /// What a name word names, quotes and escapes undone; nothing if the piece does not have all of it.
-fn named(piece: &[u8], word: u64) -> Letters {
+pub(crate) fn named(piece: &[u8], word: u64) -> Letters {
     let Some((start, length)) = steps::name(piece, word) else { return vec![] };
     let name = &piece[start as usize..(start + length) as usize];
     match name {

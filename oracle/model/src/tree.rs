@@ -19,6 +19,8 @@ pub struct Node<'a> {
     pub counter: u64,
     /// Its name as it stands in the piece, and where; none if none is written.
     pub name: Option<Name<'a>>,
+    /// The numbers among its payload, in order.
+    pub numbers: Vec<u64>,
 }
 
 #[derive(Clone, Copy, Debug, PartialEq, Eq)]
@@ -65,7 +67,7 @@ impl<'a> Growing<'a> {
             match *word {
                 Word::Header(bits) => self.begin(piece, counter, Header::of(bits)),
                 Word::Name(bits) => self.give_name(piece, bits),
-                Word::Number(_) => {}
+                Word::Number(bits) => self.give_number(bits),
             }
             self.words += 1;
         }
@@ -80,7 +82,7 @@ impl<'a> Growing<'a> {
         });
         self.open.push(Open { number: self.nodes.len(), missing: header.children });
         let (at, kind) = (self.words, header.kind);
-        self.nodes.push(Node { at, end: 0, kind, parent, piece, counter, name: None });
+        self.nodes.push(Node { at, end: 0, kind, parent, piece, counter, name: None, numbers: vec![] });
     }
 
     /// A name belongs to the node that was begun last.
@@ -88,6 +90,11 @@ impl<'a> Growing<'a> {
         let (start, length) = ((bits >> 32) as usize, bits as u32 as usize);
         let node = self.nodes.last_mut().expect("a header stands before it");
         node.name = (length > 0).then(|| Name { start, text: &piece[start..start + length] });
+    }
+
+    /// So does a number.
+    fn give_number(&mut self, bits: u64) {
+        self.nodes.last_mut().expect("a header stands before it").numbers.push(bits);
     }
 
     /// Nodes that lack no child end here.

@@ -9,6 +9,7 @@ pub mod mutate;
 pub mod numbers;
 pub mod numerals;
 pub mod rng;
+pub mod rules;
 pub mod short;
 pub mod special;
 pub mod words;

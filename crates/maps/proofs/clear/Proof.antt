@@ -2,7 +2,7 @@
 use mathlib.Core.Path.{_≡_, refl, _∙_}
 use Prim.Native.Nat.{_-_}
 use lib.ListN.{length, length-set}
-use Rattle.maps.proofs.Cuts.{cleared, cleared-more, cleared-all}
+use Rattle.maps.proofs.Zeros.{cleared, cleared-more, cleared-all}
 use borrow.Author.Needs.{needs}
 use Rattle.maps.proofs.clear.Statement.{statement}
 use Rattle.maps.proofs.clear.Tie as tie

@@ -1,10 +1,10 @@
 //! Throughput beside the Rust, in one run, as ratios; growth from 1 KB to 16 MB; re-reading after
 //! a one-digit edit, and after one that moves every number (M-106). `bench --map`: block maps (M-109) of functions of
-//! several shapes as they grow. `bench` takes the static library, `bench --model` the model.
+//! several shapes as they grow. `bench --channels`: tables of rules (M-102) as they grow. `bench` takes the static library, `bench --model` the model.
 //!
 //! Arrays are lent at the exact fit and not cleared first: clearing is the reader's own work.
 
-use beside::port::{Function, Model, Port};
+use beside::port::{Asked, Function, Model, Port};
 use beside::{big, library};
 use judge::walk::ENTRY_WORDS;
 use judge::{files, left_out};
@@ -12,6 +12,8 @@ use std::hint::black_box;
 use std::process::ExitCode;
 use std::time::{Duration, Instant};
 use texts::clang;
+use texts::rng::Rng;
+use texts::rules::{self, Rule};
 
 /// The best of several runs, each at least this long in sum.
 const ENOUGH: Duration = Duration::from_secs(1);
@@ -261,6 +263,47 @@ fn maps(port: &dyn Port) -> Result<bool, String> {
     Ok(true)
 }
 
+/// So many rules in each of the four classes.
+const RULES: &[usize] = &[1, 4, 25, 250, 4_096, 16_384, 65_536];
+
+/// One line: a call with a table, what it returns, and how long it takes.
+fn asked(port: &dyn Port, name: &str, rules: &[Rule], of: Function) -> String {
+    let (mut place, mut answer) = (0, 0);
+    let asked = Asked { rules, class: 3, n: 0 };
+    let number = port.channel(asked, of, &mut place, &mut answer);
+    let time = best(|| assert_eq!(port.channel(asked, of, &mut place, &mut answer), number));
+    let (us, each) = (time.as_secs_f64() * 1e6, time.as_secs_f64() * 1e9 / rules.len() as f64);
+    format!("| {name} | {} | {number} | {us:.3} | {each:.2} |\n", rules.len())
+}
+
+/// A call with tables as they grow, in order of class and channel and in none; a gap at the very end; and as many rules as
+/// there can be that all cover everything. The function is as small as one with a call is, so that the table is what takes
+/// the time.
+fn tables(port: &dyn Port) -> Result<bool, String> {
+    let mut job = Job::new(b"void @f(){call void @fire(i16 5)ret void}").ok_or("it is accepted")?;
+    let entries = job.read(port);
+    let of = Function { text: &job.text, words: &job.words, directory: &job.directory, entries };
+    let mut rng = Rng::new(102);
+    let mut out =
+        "| table | rules | returns | time in us | ns for a rule |\n|---|---|---|---|---|\n".to_string();
+    for &each in RULES {
+        let mut table = rules::even(&mut rng, each);
+        out.push_str(&asked(port, "in order", &table, of));
+        table.reverse();
+        out.push_str(&asked(port, "backwards", &table, of));
+        rules::shuffle(&mut rng, &mut table);
+        out.push_str(&asked(port, "in no order", &table, of));
+        table.pop();
+        out.push_str(&asked(port, "in no order, one less", &table, of));
+    }
+    for count in [1_000, 16_384, 262_144] {
+        let whole = Rule { account_class: 3, allowed: 1, first: 0, last: 65_535 };
+        out.push_str(&asked(port, "all cover everything", &vec![whole; count], of));
+    }
+    files::print(&out)?;
+    Ok(true)
+}
+
 fn run(port: &dyn Port) -> Result<bool, String> {
     // Without those of clang 22: the Rust refuses most of them at their first attribute. Without
     // `atomicrmw`, which is never compared with the Rust.
@@ -288,6 +331,8 @@ fn main() -> ExitCode {
         ["--model"] => run(&Model),
         ["--map"] => library().and_then(maps),
         ["--model", "--map"] => maps(&Model),
-        _ => Err("usage: bench [--model] [--map]".to_string()),
+        ["--channels"] => library().and_then(tables),
+        ["--model", "--channels"] => tables(&Model),
+        _ => Err("usage: bench [--model] [--map | --channels]".to_string()),
     })
 }

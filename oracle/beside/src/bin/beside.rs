@@ -5,21 +5,23 @@
 //! types and values, `--numerals SEED COUNT` so many numerals around the limits, `--afternoons SEED COUNT` so
 //! many sequences of edits in the same arrays, and as many with refused calls that were lent what is not theirs,
 //! `--walk SEED COUNT` so many functions stepped over from node to node, and as many hostile arrays, `--map SEED COUNT`
-//! so many block maps, and as many of hostile records.
+//! so many block maps, and as many of hostile records, `--channels SEED COUNT` so many tables of rules, each with a
+//! function, and as many hostile records.
 
 use beside::afternoon::{self, Calls};
 use beside::port::{Model, Port};
 use beside::shrink::shrink;
 use beside::walk::{self, Hostile, Met};
-use beside::{big, check, library, long, map, reread, rooms};
+use beside::{big, channels, check, library, long, map, reread, rooms};
 use judge::{files, hex, left_out, reads_on};
+use model::channels::of_text;
 use model::fold;
 use model::full::records;
 use std::collections::BTreeMap;
 use std::process::ExitCode;
 use texts::numerals::{self, Placed};
 use texts::rng::Rng;
-use texts::{clang, cover, jumps, maker, mutate, short, Kind, Texts};
+use texts::{clang, cover, jumps, maker, mutate, rules, short, Kind, Texts};
 
 /// How many calls were answered with each number; 0 is accepted.
 #[derive(Default)]
@@ -211,6 +213,45 @@ impl Maps {
     }
 }
 
+/// What rules were asked for (M-102).
+#[derive(Default)]
+struct Channels {
+    /// Functions of clang, as printed or damaged.
+    real: u64,
+    met: channels::Met,
+}
+
+/// Answers as they are counted.
+fn answers(answers: &channels::Answers) -> String {
+    let [no, yes, undecided, none] = answers.said;
+    let [class, rule, overlap, gap] = answers.refused;
+    format!(
+        "{} calls: {yes} yes, {no} no, {undecided} undecided, {none} none; refused: {class} for the class asked for, \
+         {rule} with 23 for a rule, {overlap} with 24, {gap} with 25",
+        answers.calls()
+    )
+}
+
+impl Channels {
+    fn add(&mut self, other: Channels) {
+        self.real += other.real;
+        self.met.add(other.met);
+    }
+
+    fn show(&self) -> String {
+        let channels::Met { tables, rules, functions, fires, hostile, hostile_fires, .. } = self.met;
+        let [fine, rule, overlap, gap] = tables;
+        let (real, all) = (self.real, tables.iter().sum::<u64>());
+        format!(
+            "{all} tables of {rules} rules: {fine} not refused, {rule} refused with 23, {overlap} with 24, {gap} with 25; \
+             {functions} functions, {real} of them of clang, with {fires} calls to @fire\n\
+             {}\n{hostile} hostile records with {hostile_fires} calls to @fire, {}\n",
+            answers(&self.met.answers),
+            answers(&self.met.hostile_answers)
+        )
+    }
+}
+
 #[derive(Default)]
 struct Report {
     texts: Answers,
@@ -221,10 +262,11 @@ struct Report {
     afternoons: Afternoons,
     walks: Walks,
     maps: Maps,
+    channels: Channels,
     wrong: Vec<String>,
 }
 
-const USAGE: &str = "usage: beside [--model] ([--edits | --values | --numerals | --afternoons | --walk | --map] SEED COUNT | --short | --bytes)";
+const USAGE: &str = "usage: beside [--model] ([--edits | --values | --numerals | --afternoons | --walk | --map | --channels] SEED COUNT | --short | --bytes)";
 
 /// So many differences are shown; more would be the same ones again.
 const SHOWN: usize = 20;
@@ -404,6 +446,33 @@ impl Report {
         }
     }
 
+    /// A function whose point is calls to `@fire`: what was written into it is what the model must read.
+    fn cue(&mut self, rng: &mut Rng) -> Vec<u8> {
+        let cue = rules::function(rng);
+        let read = of_text(&cue.text);
+        if read.as_ref() != Some(&cue.fires) {
+            self.wrong(
+                &cue.text,
+                &format!("the model has the channels {read:?}, {:?} were written", cue.fires),
+            );
+        }
+        cue.text
+    }
+
+    /// A table with an accepted text, and with hostile records made of its own.
+    fn rules(&mut self, port: &dyn Port, rng: &mut Rng, table: &channels::Table, text: &[u8]) {
+        match channels::function(port, rng, table, text) {
+            None => return,
+            Some(Ok(met)) => self.channels.met.add(met),
+            Some(Err(why)) => self.wrong(text, &why),
+        }
+        let table = channels::any_table(rng);
+        match channels::hostile(port, rng, &table, text) {
+            Ok(met) => self.channels.met.add(met),
+            Err(why) => self.wrong(b"", &why),
+        }
+    }
+
     fn add(&mut self, other: Report) {
         self.texts.add(other.texts);
         self.rooms += other.rooms;
@@ -413,6 +482,7 @@ impl Report {
         self.afternoons.add(other.afternoons);
         self.walks.add(other.walks);
         self.maps.add(other.maps);
+        self.channels.add(other.channels);
         self.wrong.extend(other.wrong);
     }
 
@@ -440,6 +510,9 @@ impl Report {
         }
         if self.maps.functions > 0 {
             out.push_str(&self.maps.show());
+        }
+        if self.channels.met.functions > 0 {
+            out.push_str(&self.channels.show());
         }
         out.push_str(&format!("{} differences\n", self.wrong.len()));
         out
@@ -593,6 +666,58 @@ fn fixed_maps(port: &dyn Port) -> Report {
     report
 }
 
+/// So many tables of rules, each with a function, and as many hostile records. Most of the functions have calls to `@fire`
+/// as their point.
+fn tables(port: &dyn Port, seed: u64, count: u64) -> Report {
+    let mut report = Report::default();
+    let mut texts = Texts::new(seed);
+    let mut rng = Rng::new(seed ^ 0x5bd1_e995);
+    let mut drawn: u64 = 0;
+    while report.channels.met.functions < count && report.wrong.len() < SHOWN {
+        let before = report.channels.met.functions;
+        let (real, text) = match drawn % REAL {
+            0 if drawn % (2 * REAL) == 0 => (true, texts.real().1),
+            0 => {
+                let (kind, text) = texts.draw();
+                (matches!(kind, Kind::Clang | Kind::ClangMutated), text)
+            }
+            _ => (false, report.cue(&mut rng)),
+        };
+        let table = channels::Table::new(rules::table(&mut rng));
+        report.rules(port, &mut rng, &table, &text);
+        if real {
+            report.channels.real += report.channels.met.functions - before;
+        }
+        drawn += 1;
+    }
+    report
+}
+
+/// How many rules a class has in the large tables. A call takes time by the rules times the windows with a rule's end, 14 ms
+/// with 1,000 rules in all and seconds with 65,536: those are asked by `bench --channels`, some calls each.
+const LARGE: &[usize] = &[16, 64, 250];
+
+/// The large tables that every run asks, each with a function that has calls; and each form and all stored functions of
+/// clang, with tables of every sort.
+fn fixed_tables(port: &dyn Port) -> Report {
+    let mut report = Report::default();
+    let mut rng = Rng::new(0);
+    for large in rules::large(&mut rng, LARGE) {
+        let table = channels::Table::new(large);
+        let text = rules::function(&mut rng).text;
+        report.rules(port, &mut rng, &table, &text);
+    }
+    let mut each = |report: &mut Report, text: &Vec<u8>| {
+        let table = channels::Table::new(rules::table(&mut rng));
+        report.rules(port, &mut rng, &table, text);
+    };
+    cover::texts().iter().chain(&big::children()).for_each(|text| each(&mut report, text));
+    let before = report.channels.met.functions;
+    clang::functions().iter().for_each(|text| each(&mut report, text));
+    report.channels.real = report.channels.met.functions - before;
+    report
+}
+
 /// Texts whose every edit of one byte is tried: labels, blocks, quotes, escapes, a comment, each kind of border,
 /// `atomicrmw`, numbers that are given by themselves, caught up with and at the limit.
 const FEW: &[&[u8]] = &[
@@ -723,6 +848,13 @@ fn map_work(port: &'static dyn Port, seed: u64, count: u64) -> Vec<Work> {
     work
 }
 
+/// Two halves, and the fixed ones.
+fn table_work(port: &'static dyn Port, seed: u64, count: u64) -> Vec<Work> {
+    let mut work = halves(tables, port, seed, count);
+    work.push(Box::new(move || fixed_tables(port)));
+    work
+}
+
 fn byte_work(port: &'static dyn Port) -> Vec<Work> {
     vec![Box::new(move || half_of_bytes(port, 0)), Box::new(move || half_of_bytes(port, 1))]
 }
@@ -757,6 +889,7 @@ fn start(args: &[&str]) -> Result<bool, String> {
         ["--numerals", seed, count] => run(numeral_work(port, number(seed)?, number(count)?)),
         ["--walk", seed, count] => run(walk_work(port, number(seed)?, number(count)?)),
         ["--map", seed, count] => run(map_work(port, number(seed)?, number(count)?)),
+        ["--channels", seed, count] => run(table_work(port, number(seed)?, number(count)?)),
         [seed, count] => run(stream_work(port, number(seed)?, number(count)?)),
         _ => Err(USAGE.to_string()),
     }

@@ -1,9 +1,10 @@
 -- The test of the code is the definition's; where a name stands there is room for the next place.
-use mathlib.Core.Path.{sym, ap, refl, _∙_}
+use mathlib.Core.Path.{ap, refl, _∙_}
 use native.Mathlib.Omega.{arith}
 use Rattle.printing.specs.Stored.{stored, placed}
 use Rattle.trees.specs.Steps.{kindIn}
-use Rattle.maps.proofs.Edges.{name-inside, edge-here, no-edge-here}
+use Rattle.cuts.proofs.Inside.{kind-inside}
+use Rattle.maps.proofs.Edges.{edge-here, no-edge-here}
 use borrow.Author.Needs.{needs}
 use Rattle.maps.proofs.targets.put_edge_to.Statement.{statement}
 use Rattle.maps.proofs.targets.put_edge_to.Tie as tie
@@ -15,8 +16,8 @@ add-word-at c =
     record {
       fits = omega (
         arith,
-        name-inside (c7 .args .own .now) (c7 .args .place)
-            (sym (ap kindIn (c2 .before .word-at .ensures)) ∙ sym (c2 .kind-in .ensures) ∙ c .before .if1 .taken),
+        kind-inside (c7 .args .own .now) (c7 .args .place)
+            (omega (arith, ap kindIn (c2 .before .word-at .ensures), c2 .kind-in .ensures, c .before .if1 .taken)),
       );
     }
 

@@ -1,0 +1,4 @@
+pub mod Table
+pub mod Fires
+pub mod Answers
+pub mod Known
