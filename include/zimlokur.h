@@ -279,7 +279,8 @@ enum zimlokur_answer {
  *   machine takes 300 modulo 256. So a yes for 300 lets 44 be fired, which the class may be forbidden. `i16 -1` is undecided, and fires 65,535;
  *   clang writes 16-bit constants from 32,768 on so, fire(65535) as `i16 -1`. `i1 true` is 1 in both. Who takes cues that no compiler
  *   wrote looks at each constant's type, too, as examples/rules.c does.
- * Any rules, records and count may be lent: nothing undefined happens, and nothing but *place and *answer is written.
+ * Any rules, records and count may be lent: nothing undefined happens, and nothing but *place and *answer is written. It takes time by the rules
+ *   times their ends, at most 4,098 looks at each: docs/MEASURED.md.
  */
 uint64_t zimlokur_channel(const struct zimlokur_rule *rules, size_t rules_len, uint64_t account_class, uint64_t n, const uint8_t *text,
                           size_t text_len, const uint64_t *words, size_t words_len, const uint64_t *directory, size_t directory_len,
