@@ -266,8 +266,8 @@ enum zimlokur_answer {
  * Returns 0, with 0 in *place and the answer in *answer: ZIMLOKUR_ANSWER_NONE past the last call, whatever n;
  *   ZIMLOKUR_ANSWER_UNDECIDED exactly where the call's first argument is absent or no integer constant from 0 to 65,535; else
  *   ZIMLOKUR_ANSWER_YES or ZIMLOKUR_ANSWER_NO as the one rule of that class says that covers the channel. The other classes' rules have no say.
- * Returns the number of the question that refuses the table, with its place in *place and ZIMLOKUR_ANSWER_NONE in *answer. In this order, and
- *   before any function is looked at:
+ * Returns the number of the question that refuses the table, with its place in *place and ZIMLOKUR_ANSWER_NONE in *answer. In this order, whatever
+ *   text and records are lent:
  *   ZIMLOKUR_Q_RULE (23), place 0: the class asked for is above 3;
  *   ZIMLOKUR_Q_RULE (23): the earliest rule, by its number from 0, whose class is above 3 or whose first channel is above its last;
  *   ZIMLOKUR_Q_OVERLAP (24): two rules of one class, the one asked for or another, share a channel; of such pairs the lowest by its earlier rule,
