@@ -1,5 +1,7 @@
 // Attributes, linkage, calling conventions and flags: what is read and dropped (parser.rs, "Attribute / token skipping helpers").
 // A table is one byte string with its words one behind the other, and their lengths.
+#![tactic(auto)]
+
 ghost use Rattle.std.specs.Prelude.{◌≡◌, ◌+◌, drop};
 ghost use Rattle.program.specs.Prog.{scan_len};
 ghost use Rattle.grammar.specs.Lexer.{skip_all};
@@ -211,7 +213,7 @@ fn attr_parens(classes: &[u8; 256], text: &[u8], p: Parsed, r: usize) -> Parsed
 }
 
 // Where the reader is behind one attribute, or behind them all.
-#[derive(Drop)]
+#[derive(Clone, Copy)]
 pub struct Passed {
     pub p: Parsed,
     pub more: bool,

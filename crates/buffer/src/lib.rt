@@ -1,4 +1,6 @@
 // Texts that are written: bytes and numbers in a lent buffer, as far as it reaches, and never more than a written text may have (27).
+#![tactic(auto)]
+
 ghost use Rattle.std.specs.Prelude.{◌≡◌, drop};
 ghost use Rattle.buffer.specs.Stored.{onward, with_byte, Stores};
 ghost use Rattle.buffer.specs.Decimal.{decimal};
@@ -42,7 +44,7 @@ pub fn put_all(out: &mut [u8], at: usize, bytes: &[u8]) -> usize
 }
 
 // A number's digits, which stand from `from` on.
-#[derive(Drop)]
+#[derive(Clone, Copy)]
 struct Digits {
     bytes: [u8; 20],
     from: usize,

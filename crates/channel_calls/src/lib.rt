@@ -1,4 +1,6 @@
 // The channel of a call to `@fire` (02: M-102), from the records of a function and its text. Over any records whatever.
+#![tactic(auto)]
+
 ghost use Rattle.std.specs.Prelude.{◌≡◌, ◌-◌};
 ghost use Rattle.std.proofs.Math.Option.{some};
 ghost use Rattle.record_steps.specs.Views.{reached};
@@ -9,7 +11,7 @@ use channel_spec::Fired;
 use record_steps::Step;
 
 // What seeking a call of some number among some calls comes to: what it says; or, where they are fewer, its number among those behind them.
-#[derive(Drop)]
+#[derive(Clone, Copy)]
 pub enum Search {
     Found(Fired),
     Left(u64),

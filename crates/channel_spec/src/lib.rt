@@ -1,7 +1,9 @@
 // Channel rules per account class (02: M-102): definitions, and what is lent and told.
 // A rule, as it is lent: a class, whether it may fire (0 is no, all else yes), and the first and the last channel.
+#![tactic(auto)]
+
 #[repr(C)]
-#[derive(Drop)]
+#[derive(Clone, Copy)]
 pub struct Rule {
     pub account_class: u8,
     pub allowed: u8,
@@ -10,7 +12,7 @@ pub struct Rule {
 }
 
 // What a call to `@fire` says: its channel; or that none can be read off its first argument; or that there is no such call.
-#[derive(Drop)]
+#[derive(Clone, Copy)]
 pub enum Fired {
     Channel(u16),
     Undecided,
@@ -18,7 +20,7 @@ pub enum Fired {
 }
 
 // What is told: an answer; or the number of the question that refuses the table, and the place.
-#[derive(Drop)]
+#[derive(Clone, Copy)]
 pub enum Told {
     Answer(u64),
     Refused(u64, u64),

@@ -3,6 +3,8 @@
 // to a search that says which one it wants next. All else takes a rule by value.
 // A search makes passes over the rules, the last rule first, so that what it found last has the lowest number. Overlaps and gaps are looked for in
 // windows of 64 channels of one class, whose marks are the bits of a word; windows in which no rule begins or ends are left out.
+#![tactic(auto)]
+
 pub mod windows; // windows.rt: a window of channels, and what a rule marks in it
 
 ghost use Rattle.std.specs.Prelude.{◌≡◌, length};
@@ -15,7 +17,7 @@ use windows::{CHANNELS, WINDOW, Window};
 
 // What a pass asks of each rule: is it bad; does it share a channel of a window with one behind it; does it overlap the earlier rule, and stands
 // behind it; does it cover the channel of the call. Or nothing more.
-#[derive(Drop)]
+#[derive(Clone, Copy)]
 pub enum Question {
     Bad,
     Shared(Window),
@@ -25,7 +27,7 @@ pub enum Question {
 }
 
 // A rule with its number; past the rules where none was found.
-#[derive(Drop)]
+#[derive(Clone, Copy)]
 pub struct Found {
     pub number: usize,
     pub rule: Rule,
@@ -33,7 +35,7 @@ pub struct Found {
 
 // A search: the rule that is wanted next, or past them where nothing more is asked; how many there are; the class and the call that are asked about;
 // the question of this pass, and what it has found; the earlier rule of an overlap; the lowest gap; and what is told in the end.
-#[derive(Drop)]
+#[derive(Clone, Copy)]
 pub struct Search {
     pub at: usize,
     pub count: usize,

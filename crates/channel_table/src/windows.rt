@@ -12,7 +12,7 @@ pub const CHANNELS: u64 = 65536;
 
 // The window: its class and its first channel; the channels of it that are marked; and the lowest channel behind it at which a rule of the class begins
 // or behind which one has ended.
-#[derive(Drop)]
+#[derive(Clone, Copy)]
 pub struct Window {
     pub class: u8,
     pub from: u16,

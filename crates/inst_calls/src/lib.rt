@@ -1,4 +1,6 @@
 // `parse_call`: a function type in a call repeats the return type, whose words are copied to where they belong too.
+#![tactic(auto)]
+
 ghost use Rattle.std.specs.Prelude.{◌≡◌, List, [], ◌∷◌, ℕ, ◌+◌, ◌≤◌, ◌<◌, length};
 ghost use Rattle.program.specs.Prog.{ret};
 ghost use Rattle.grammar.specs.Types.{listed};
@@ -163,7 +165,7 @@ fn func_type(classes: &[u8; 256], text: &[u8], words: &mut [u64], p: Parsed, s: 
 }
 
 // Where the reader is behind a call, and whether it is void, if it has no destination.
-#[derive(Drop)]
+#[derive(Clone, Copy)]
 struct Called {
     p: Parsed,
     void: bool,

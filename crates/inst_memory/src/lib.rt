@@ -1,5 +1,7 @@
 // The readers of the instructions on memory and aggregates (parser.rs, "memory"), each behind its opcode. Each writes the words of its node behind
 // the cursor: a slot for the header, the destination, the operands; then the header.
+#![tactic(auto)]
+
 ghost use Rattle.std.specs.Prelude.{◌≡◌, [], ℕ, ◌+◌, ◌*◌, length};
 ghost use Rattle.program.specs.Bytes.{bytes};
 ghost use Rattle.grammar.specs.Lexer.{skip_keyword, rank, spelled};
@@ -121,7 +123,7 @@ fn access_operands(
 }
 
 // What a load and a store do not share: which it is, the kinds of its node, and how many children.
-#[derive(Drop)]
+#[derive(Clone, Copy)]
 struct Form {
     store: bool,
     kind: u8,
@@ -255,7 +257,7 @@ pub fn parse_cmpxchg(
 }
 
 // An operation of `atomicrmw`, as its rank in ast.rs order.
-#[derive(Drop)]
+#[derive(Clone, Copy)]
 struct RmwOp {
     p: Parsed,
     r: u8,
@@ -360,7 +362,7 @@ pub fn parse_fence(classes: &[u8; 256], text: &[u8], words: &mut [u64], p: Parse
 }
 
 // What stands behind an alloca's type: `n` is 0 where there is no count, `has` is 0 where there is no alignment.
-#[derive(Drop)]
+#[derive(Clone, Copy)]
 struct Rest {
     p: Parsed,
     n: u8,

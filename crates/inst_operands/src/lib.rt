@@ -1,5 +1,7 @@
 // What stands around operands (parser.rs, "Functions"): operands whose type is dropped, the clauses that end an instruction, labels; and operands
 // that are read without being written, or once more in another place.
+#![tactic(auto)]
+
 ghost use Rattle.std.specs.Prelude.{◌≡◌, List, [], ◌∷◌, ℕ};
 ghost use Rattle.program.specs.Prog.{ret};
 ghost use Rattle.records.specs.Limits.{depth_limit};
@@ -17,7 +19,7 @@ ghost use Rattle.inst_operands.specs.Dry.{Dry};
 use lexer::{Cursor, Num, Parsed};
 
 // Where the reader is behind the clauses that end an instruction, and the last alignment: `has` is 0 where there is none, else 1.
-#[derive(Drop)]
+#[derive(Clone, Copy)]
 pub struct Trail {
     pub p: Parsed,
     pub has: u8,
@@ -25,7 +27,7 @@ pub struct Trail {
 }
 
 // The same behind one of them, and whether the next may follow.
-#[derive(Drop)]
+#[derive(Clone, Copy)]
 pub struct Turn {
     pub p: Parsed,
     pub has: u8,

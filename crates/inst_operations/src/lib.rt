@@ -1,6 +1,8 @@
 // The readers of arithmetic, conversions, comparisons, `select`, `phi` and `freeze` (parser.rs, "arithmetic / bitwise" to "comparisons / select", "phi /
 // freeze / call"), each behind its opcode. Each writes the words of its node behind the cursor: a slot for the header, the destination, the
 // operands; then the header.
+#![tactic(auto)]
+
 ghost use Rattle.std.specs.Prelude.{◌≡◌, [], ◌∷◌, ℕ};
 ghost use Rattle.grammar.specs.Instructions.{two_operands, binary, unary, parse_bin, parse_fbin, parse_fneg, parse_icmp, parse_fcmp, parse_select, parse_freeze, icmp_preds, fcmp_preds, predicate, parse_conv, phi_items, parse_phi};
 ghost use Rattle.lexer.specs.Table.{Classes};
@@ -109,7 +111,7 @@ pub fn parse_fneg(
 }
 
 // A predicate, as its rank.
-#[derive(Drop)]
+#[derive(Clone, Copy)]
 pub struct Pred {
     pub p: Parsed,
     pub r: u8,

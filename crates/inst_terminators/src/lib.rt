@@ -1,4 +1,6 @@
 // The readers of terminators (parser.rs, "Terminators"), each behind its word.
+#![tactic(auto)]
+
 pub mod switch; // switch.rt: `parse_switch`
 
 ghost use Rattle.std.specs.Prelude.{[]};

@@ -32,7 +32,7 @@ fn taken(words: &[u64], q: Parsed, i: usize) -> u64
 }
 
 // A case's integer, as its two words.
-#[derive(Drop)]
+#[derive(Clone, Copy)]
 struct Case {
     p: Parsed,
     lo: u64,
@@ -69,7 +69,7 @@ fn stopped(p: Parsed) -> bool
 }
 
 // So many children there are with the labels of the cases.
-#[derive(Drop)]
+#[derive(Clone, Copy)]
 struct Cases {
     p: Parsed,
     n: u16,

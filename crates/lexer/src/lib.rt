@@ -2,6 +2,8 @@
 //
 // A reader takes the answer so far, `Parsed`, and hands a refusal on, so that its body is a straight line of calls, as the Rust's with `?`.
 // The table of classes is made once, by `classes`, and lent to every reader as its first parameter.
+#![tactic(auto)]
+
 pub mod limits; // limits.rt: the classes of bytes by name
 pub mod lists; // lists.rt: what lists share
 pub mod tests; // tests.rt: the beginning of a word, and a digit
@@ -48,28 +50,28 @@ pub fn class(classes: &[u8; 256], b: u8) -> u8
 }
 
 // Where the reader stands: the place in the text and the next word.
-#[derive(Drop)]
+#[derive(Clone, Copy)]
 pub struct Cursor {
     pub at: usize,
     pub w: usize,
 }
 
 // How far the reader came, or the number and the place of a refusal.
-#[derive(Drop)]
+#[derive(Clone, Copy)]
 pub enum Parsed {
     Ok(Cursor),
     Refused(u64, usize),
 }
 
 // An answer with a number: a value, or a name's word.
-#[derive(Drop)]
+#[derive(Clone, Copy)]
 pub struct Num {
     pub p: Parsed,
     pub v: u64,
 }
 
 // Where an automaton stopped, and in which state.
-#[derive(Drop)]
+#[derive(Clone, Copy)]
 pub struct Stop {
     pub at: usize,
     pub q: u8,

@@ -20,7 +20,7 @@ pub fn count_child(p: Parsed, n: u16) -> Parsed
 }
 
 // Where a list goes on: behind a comma, where there is more, or behind its closing byte.
-#[derive(Drop)]
+#[derive(Clone, Copy)]
 pub struct Behind {
     pub p: Parsed,
     pub more: bool,

@@ -1,4 +1,6 @@
 // Keywords by their rank in a table. A table is one byte string with its words one behind the other, and one with their lengths; both are lent.
+#![tactic(auto)]
+
 ghost use Rattle.std.specs.Prelude.{◌≡◌, ◌+◌, ◌-◌, ◌≤◌, length, take, drop};
 ghost use Rattle.program.specs.Prog.{lead_word};
 ghost use Rattle.grammar.specs.Lexer.{same_word, rank, skip_one, skip_all};
@@ -11,7 +13,7 @@ use lexer::limits::WORD;
 use lexer::{Cursor, Parsed, class, eat_ws};
 
 // The rank of a keyword in a table, and where the reader is behind it.
-#[derive(Drop)]
+#[derive(Clone, Copy)]
 pub struct Ranked {
     pub p: Parsed,
     pub r: usize,

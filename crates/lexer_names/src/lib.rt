@@ -1,4 +1,6 @@
 // Names (parser.rs `read_word`, `parse_local_name`, `parse_global_name`): a run of name characters, or quoted, with escapes.
+#![tactic(auto)]
+
 pub mod quotes; // quotes.rt: where what stands between quotes stops
 pub mod skips; // skips.rt: what is passed over, and byte strings
 
@@ -18,7 +20,7 @@ use lexer::{Cursor, Num, Parsed, at_byte, class, eat_ws, looks, minus, pass, pla
 pub use skips::{balanced, cstring, skip_metadata_ref, skip_parens, three_dots};
 
 // A word as it stands in the text, quotes included, and whether it has no bytes (between its quotes).
-#[derive(Drop)]
+#[derive(Clone, Copy)]
 pub struct WordAt {
     pub p: Parsed,
     pub start: usize,
@@ -27,7 +29,7 @@ pub struct WordAt {
 }
 
 // The next byte of a name with escapes undone, if there is one, and the place behind it.
-#[derive(Drop)]
+#[derive(Clone, Copy)]
 pub struct Letter {
     pub there: bool,
     pub b: u16,

@@ -1,4 +1,6 @@
 // Names with quotes and escapes undone: two names are the same when their bytes are, and an opcode may be written in quotes.
+#![tactic(auto)]
+
 ghost use Rattle.std.specs.Prelude.{◌≡◌, true, false, ◌+◌, ◌*◌};
 ghost use Rattle.grammar.specs.Lexer.{same_word, rank, spelled, same_name};
 ghost use Rattle.lexer.specs.Table.{Classes, cut};

@@ -1,4 +1,6 @@
 // The map of a function's blocks, as a DOT digraph (02: M-109), from its records and its text. Over any records whatever.
+#![tactic(auto)]
+
 pub mod quoted; // quoted.rt: the names of blocks and targets, in quotes
 pub mod targets; // targets.rt: the edges of one block
 
@@ -14,7 +16,7 @@ use buffer::{PAST, put_all};
 use quoted::Label;
 
 // A map of so many bytes, or one that is too long (27).
-#[derive(Drop)]
+#[derive(Clone, Copy)]
 pub enum Drawn {
     Map(usize),
     TooLong,

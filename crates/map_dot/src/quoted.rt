@@ -11,7 +11,7 @@ ghost use Rattle.map_spec.specs.Blocks.{name_in, block_name};
 use buffer::{put, put_all, put_decimal};
 
 // What a block is named by: its entry's counter, and its label's word.
-#[derive(Drop)]
+#[derive(Clone, Copy)]
 pub struct Label {
     pub number: u64,
     pub word: u64,

@@ -1,1 +1,2 @@
 // Definitions alone: the block map, what it shows and its text.
+#![tactic(auto)]

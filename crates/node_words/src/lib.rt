@@ -1,5 +1,7 @@
 // Words and nodes: a node is a slot for its header, its payload and its children, and `close` writes the header. Each function stores where
 // the array reaches and counts always, so that a short array and none at all are read alike.
+#![tactic(auto)]
+
 ghost use Rattle.std.specs.Prelude.{◌≡◌, ◌+◌, set};
 ghost use Rattle.lexer.specs.Step.{bumped};
 ghost use Rattle.node_words.specs.Writes.{pushed, pushes, header_of, closes, patches, replaced, replaces, back_to, restarted, joined};

@@ -1,11 +1,13 @@
 // What 64 bits hold: whole numbers: a width, an index, a decimal's exponent.
+#![tactic(auto)]
+
 pub mod ieee; // ieee.rt: the parts of floats by name
 
 ghost use Rattle.std.specs.Prelude.{◌≡◌};
 ghost use Rattle.number_bits.specs.Number.{capped, shifted};
 
 // A number, or one that 64 bits do not hold.
-#[derive(Drop)]
+#[derive(Clone, Copy)]
 pub enum Val {
     Exact(u64),
     Over,

@@ -1,4 +1,6 @@
 // Numbers of at most 64 bits in a text (`parse_int`), questions 4 and 15.
+#![tactic(auto)]
+
 ghost use Rattle.std.specs.Prelude.{◌≡◌, ◌<◌};
 ghost use Rattle.grammar.specs.Numbers.{digit_step, parse_int};
 ghost use Rattle.lexer.specs.Table.{Classes};
@@ -11,7 +13,7 @@ use lexer::{Cursor, Num, Parsed, class};
 use number_bits::{Val, shift};
 
 // The place behind digits, and their value.
-#[derive(Drop)]
+#[derive(Clone, Copy)]
 pub struct Digits {
     pub at: usize,
     pub val: Val,

@@ -1,5 +1,7 @@
 // Decimals over whole numbers. 01: "the binary64 nearest its value, ties to even, defined over whole numbers"; "Supported: zero, or at most 15
 // digits without outer zeros, times ten to the -22 up to 22."
+#![tactic(auto)]
+
 use number_bits::ieee::UNIT64;
 
 pub mod mantissa; // mantissa.rt: the digits of a decimal, folded
@@ -55,7 +57,7 @@ pub fn five(k: usize) -> u64
 }
 
 // A quotient and what is left.
-#[derive(Drop)]
+#[derive(Clone, Copy)]
 pub struct Parts {
     pub q: u64,
     pub rest: u64,
@@ -76,7 +78,7 @@ fn doubled(q: u64, rest: u64, d: u64) -> Parts
     }
 }
 
-#[derive(Drop)]
+#[derive(Clone, Copy)]
 pub struct Significand {
     pub q: u64,
     pub rest: u64,
@@ -157,7 +159,7 @@ fn nearest_down(m: u64, k: usize) -> u64
 }
 
 // A decimal's bits, or question 17.
-#[derive(Drop)]
+#[derive(Clone, Copy)]
 pub enum Decimal {
     Bits(u64),
     Unsupported,

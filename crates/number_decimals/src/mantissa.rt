@@ -17,7 +17,7 @@ const COUNT_LIMIT: u64 = 4611686018427387904;
 
 // The digits so far are sig, without the zeros in front, and then so many zeros; many, if sig were of more than 15 digits. Without a digit
 // that is not zero, sig and zeros are 0.
-#[derive(Drop)]
+#[derive(Clone, Copy)]
 pub struct Mantissa {
     pub sig: u64,
     pub zeros: u64,

@@ -1,4 +1,6 @@
 // The bits of floats in a text (`parse_hex_float`), their digits folded as they are scanned. 01: "Types and values", question 7.
+#![tactic(auto)]
+
 ghost use Rattle.std.specs.Prelude.{List, ℕ};
 ghost use Rattle.grammar.specs.Numbers.{parse_hex_float, parse_f0x};
 ghost use Rattle.lexer.specs.Table.{Classes};
@@ -11,7 +13,7 @@ use number_integers::hex::{Hex, no_hex, push_hex};
 use number_integers::literal::{Literal, f0x_literal, hex_literal};
 
 // Where the reader is behind hex digits, and what they fold to.
-#[derive(Drop)]
+#[derive(Clone, Copy)]
 pub struct HexFolded {
     pub p: Parsed,
     pub h: Hex,

@@ -7,7 +7,7 @@ use number_bits::ieee::{BIAS, INFINITY64, MOVED, QUIET32, SIGN32, SIGN64, TOP32,
 use number_bits::wide;
 
 // Up to 16 hex digits, and how many; where there are more, 0 and 17.
-#[derive(Drop)]
+#[derive(Clone, Copy)]
 pub struct Hex {
     pub bits: u64,
     pub count: u64,

@@ -12,7 +12,7 @@ const HIGH_LIMIT: u64 = 9223372036854775808;
 pub const TENFOLD_LIMIT: u64 = 1152921504606846976;
 
 // A whole number below 2^128. Where `over`, one that is not below, and both halves are 0.
-#[derive(Drop)]
+#[derive(Clone, Copy)]
 pub struct Magnitude {
     pub hi: u64,
     pub lo: u64,
@@ -20,7 +20,7 @@ pub struct Magnitude {
 }
 
 // An integer's two words, "two's complement of 128 bits, high first", or question 7.
-#[derive(Drop)]
+#[derive(Clone, Copy)]
 pub enum Integer {
     Value(u64, u64),
     Refused,
@@ -98,7 +98,7 @@ fn in_range(hi: u64, lo: u64, neg: bool) -> bool
     false
 }
 
-#[derive(Drop)]
+#[derive(Clone, Copy)]
 struct Words {
     hi: u64,
     lo: u64,

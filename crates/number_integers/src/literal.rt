@@ -5,7 +5,7 @@ ghost use Rattle.number_integers.specs.Literals.{hex_literal, f0x_literal};
 use crate::hex::{Hex, widen_bits};
 
 // An integer's two words, high first; a float's bits; the number of a question.
-#[derive(Drop)]
+#[derive(Clone, Copy)]
 pub enum Literal {
     Int(u64, u64),
     Float(u64),

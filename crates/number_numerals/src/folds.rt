@@ -14,7 +14,7 @@ use number_integers::literal::Literal;
 
 // What was passed last: nothing, the sign, a digit before the point, the point, a digit behind it, the exponent's letter, its sign, a digit of it.
 // An underscore changes nothing.
-#[derive(Drop)]
+#[derive(Clone, Copy)]
 pub enum Phase {
     Start,
     Front,
@@ -28,7 +28,7 @@ pub enum Phase {
 
 // The phase; a minus in front; a digit before or behind the point; the digits before the point as an integer; all digits of the mantissa; how many
 // stand behind the point; a minus in front of the exponent; the exponent.
-#[derive(Drop)]
+#[derive(Clone, Copy)]
 pub struct Fold {
     pub phase: Phase,
     pub neg: bool,

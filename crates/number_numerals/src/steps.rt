@@ -8,7 +8,7 @@ use crate::folds::Phase;
 use lexer::limits::DIGIT;
 
 // The phase behind a byte, or that the byte is not the numeral's.
-#[derive(Drop)]
+#[derive(Clone, Copy)]
 pub enum Next {
     On(Phase),
     End,

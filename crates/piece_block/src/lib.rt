@@ -1,4 +1,6 @@
 // Blocks and the tail (parser.rs `parse_body`): a piece from its first statement through its terminator or `}`.
+#![tactic(auto)]
+
 pub mod opcodes; // opcodes.rt: the rank of an opcode, and the reader of each
 pub mod statements; // statements.rt: a statement by its first word
 
@@ -18,7 +20,7 @@ use lexer::{Cursor, Parsed};
 use piece_directory::pieces::{Piece, Spot};
 
 // Where the reader is behind a body: is it the tail; else the counter, the last label, how many instructions, the place behind the 65,536th.
-#[derive(Drop)]
+#[derive(Clone, Copy)]
 pub struct Body {
     pub p: Parsed,
     pub tail: bool,

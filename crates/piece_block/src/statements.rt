@@ -19,7 +19,7 @@ pub const INSTRUCTION: u8 = 1;
 pub const TERMINATOR: u8 = 2;
 
 // Where the reader is behind a statement, and which it was; a label's word; the counter.
-#[derive(Drop)]
+#[derive(Clone, Copy)]
 pub struct Stated {
     pub p: Parsed,
     pub kind: u8,
@@ -28,7 +28,7 @@ pub struct Stated {
 }
 
 // Where a block is: the counter, its last label (zero means none), how many instructions.
-#[derive(Drop)]
+#[derive(Clone, Copy)]
 pub struct Within {
     pub c: u64,
     pub label: u64,

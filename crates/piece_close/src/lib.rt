@@ -1,4 +1,6 @@
 // How a piece is closed: the node of a block, or question 19, and the answer of a reader as a piece.
+#![tactic(auto)]
+
 ghost use Rattle.std.specs.Prelude.{◌≡◌, List, ◌∷◌, ◌++◌, ℕ};
 ghost use Rattle.grammar.specs.Body.{over_at, finish_block};
 ghost use Rattle.lexer.specs.Reads.{Leads, made};

@@ -1,4 +1,6 @@
 // The counter (M-106): what takes a number, and which names are numbers.
+#![tactic(auto)]
+
 ghost use Rattle.std.specs.Prelude.{List, ◌≡◌, ℕ, ◌+◌, ◌*◌, ltb};
 ghost use Rattle.program.specs.Choice.{pick};
 ghost use Rattle.records.specs.Limits.{counter_limit};
@@ -12,14 +14,14 @@ use lexer::limits::DIGIT;
 use lexer::{Parsed, class};
 
 // Where the reader is, and the counter there.
-#[derive(Drop)]
+#[derive(Clone, Copy)]
 pub struct Counter {
     pub p: Parsed,
     pub c: u64,
 }
 
 // Where the reader is behind a name, its word, and the counter there.
-#[derive(Drop)]
+#[derive(Clone, Copy)]
 pub struct CountedName {
     pub p: Parsed,
     pub v: u64,
@@ -27,7 +29,7 @@ pub struct CountedName {
 }
 
 // Are all bytes of a name digits, and what do they write? From 2^32 on any number stands for any other.
-#[derive(Drop)]
+#[derive(Clone, Copy)]
 pub struct Written {
     pub all: bool,
     pub v: u64,

@@ -1,7 +1,7 @@
 // Pieces: where one stands, how much it takes, and what reading it gives.
 // Where a piece stands: its number, its place in the text, its first word, and the counter there.
 
-#[derive(Drop)]
+#[derive(Clone, Copy)]
 pub struct Spot {
     pub number: usize,
     pub pos: usize,
@@ -10,7 +10,7 @@ pub struct Spot {
 }
 
 // How much a piece takes: bytes of text, and words.
-#[derive(Drop)]
+#[derive(Clone, Copy)]
 pub struct Size {
     pub bytes: usize,
     pub words: usize,
@@ -18,7 +18,7 @@ pub struct Size {
 
 // A head or a block, its length, the number of its words and the counter behind it; the tail, its length; a refusal, its number and its place
 // from the piece's start.
-#[derive(Drop)]
+#[derive(Clone, Copy)]
 pub enum Piece {
     Read(usize, usize, u64),
     Tail(usize),
@@ -26,7 +26,7 @@ pub enum Piece {
 }
 
 // The older records: how many entries the directory has, and how many words are lent.
-#[derive(Drop)]
+#[derive(Clone, Copy)]
 pub struct Older {
     pub entries: usize,
     pub words: usize,

@@ -1,4 +1,6 @@
 // The reader of the head (parser.rs, `parse_param_list` and the front of `parse_define`).
+#![tactic(auto)]
+
 ghost use Rattle.std.specs.Prelude.{◌≡◌, [], ℕ, ◌≤◌, ◌<◌, length};
 ghost use Rattle.records.specs.Limits.{text_limit};
 ghost use Rattle.grammar.specs.Body.{parse_param, parse_param_list, parse_head};
@@ -14,7 +16,7 @@ use piece_counter::Counter;
 use piece_directory::pieces::Piece;
 
 // Where the reader is behind the parameters: their number and the return type's, whether `...` ends them, and the counter.
-#[derive(Drop)]
+#[derive(Clone, Copy)]
 pub struct Params {
     pub p: Parsed,
     pub n: u16,

@@ -1,4 +1,6 @@
 // Whether a piece has room: questions 20 and 21. Nothing here knows the grammar.
+#![tactic(auto)]
+
 ghost use Rattle.std.specs.Prelude.{◌≡◌, ◌+◌, ◌*◌, ◌≤◌, ◌<◌, length, drop};
 ghost use Rattle.records.specs.Limits.{half_limit, text_limit, entry_words};
 ghost use Rattle.records.specs.Pieces.{judge, map_run, size, before, done, old_sizes};
@@ -10,7 +12,7 @@ use piece_directory::pieces::{Older, Size, Spot};
 use text_whole::Verdict;
 
 // Is there room for a piece: yes; its words do not end inside the array and below 2^32 (20); its entry does not (21).
-#[derive(Drop)]
+#[derive(Clone, Copy)]
 pub enum Room {
     Fits,
     Words,
@@ -18,7 +20,7 @@ pub enum Room {
 }
 
 // How long the lent arrays are.
-#[derive(Drop)]
+#[derive(Clone, Copy)]
 pub struct Lent {
     pub words: usize,
     pub directory: usize,

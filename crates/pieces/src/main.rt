@@ -1,4 +1,6 @@
 // `pieces`: reads a function from standard input and lists its pieces, or tells where it is refused.
+#![tactic(auto)]
+
 ghost use Rattle.std.specs.Prelude.{length};
 ghost use Rattle.grammar.specs.Function.{reading_of};
 ghost use Rattle.pieces_listing.specs.Lines.{printed_of};

@@ -1,4 +1,6 @@
 // What the programs print: a listing of pieces, a refusal, made in a lent buffer.
+#![tactic(auto)]
+
 ghost use Rattle.std.specs.Prelude.{◌≡◌};
 ghost use Rattle.buffer.specs.Stored.{Stores};
 ghost use Rattle.pieces_listing.specs.Lines.{field, piece_line, piece_lines, words_end, listing, refusal_line};

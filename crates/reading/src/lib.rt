@@ -1,4 +1,6 @@
 // The full reading of one function, and its re-reading after an edit. Memory is lent: the words of the nodes, and the directory of the pieces.
+#![tactic(auto)]
+
 ghost use Rattle.std.specs.Prelude.{◌≡◌, [], length};
 ghost use Rattle.records.specs.Pieces.{left, refused_at, pad, again_left, text_asked, fine};
 ghost use Rattle.grammar.specs.Function.{reading_of, rereading_of};
@@ -12,14 +14,14 @@ use reread_passes::first::{Known, Plan};
 use text_whole::Verdict;
 
 // A full reading is accepted, with so many entries; or refused, by that question at that place.
-#[derive(Drop)]
+#[derive(Clone, Copy)]
 pub enum Answer {
     Accepted(usize),
     Refused(u64, u64),
 }
 
 // What an accepted re-reading reports: how many entries there are, the number of the first piece read, and how many are read.
-#[derive(Drop)]
+#[derive(Clone, Copy)]
 pub struct Renewed {
     pub entries: usize,
     pub first: usize,
@@ -27,7 +29,7 @@ pub struct Renewed {
 }
 
 // A re-reading is accepted; or refused, by that question at that place.
-#[derive(Drop)]
+#[derive(Clone, Copy)]
 pub enum Reread {
     Accepted(Renewed),
     Refused(u64, u64),

@@ -1,4 +1,6 @@
 // The full reading, piece by piece: each is written where it stays.
+#![tactic(auto)]
+
 ghost use Rattle.std.specs.Prelude.{◌≤◌, length};
 ghost use Rattle.records.specs.Limits.{text_limit};
 ghost use Rattle.lexer.specs.Table.{Classes};
@@ -12,7 +14,7 @@ use piece_room::{Lent, ask};
 use text_whole::Verdict;
 
 // All pieces, their number and that of their words; or a refusal, its number and its place.
-#[derive(Drop)]
+#[derive(Clone, Copy)]
 pub enum Written {
     All(usize, usize),
     Refused(u64, u64),

@@ -1,4 +1,6 @@
 // The parts of a function: the text of a piece, and the words of a node, each cut off where what is lent ends. Over any records whatever.
+#![tactic(auto)]
+
 ghost use Rattle.std.specs.Prelude.{◌≡◌, drop};
 ghost use Rattle.map_spec.specs.Blocks.{piece_text, first_node, behind_node};
 

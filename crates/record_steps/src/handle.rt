@@ -8,7 +8,7 @@ ghost use Rattle.record_steps.specs.Moves.{Moves, place_or};
 
 use super::names::Text;
 
-#[derive(Drop)]
+#[derive(Clone, Copy)]
 pub struct Handle<'a> {
     pub words: &'a [u64],
     pub at: usize,

@@ -1,5 +1,7 @@
 // Steps from node to node for the preview screen: to a node's first child, to the next node below an end, and the text of a name.
 // Over any words whatever: a step that cannot be made is an answer.
+#![tactic(auto)]
+
 pub mod payloads; // payloads.rt: how many words stand between a header and the first child
 pub mod names; // names.rt: a name as a part of the piece's text
 pub mod handle; // handle.rt: a handle that holds words and place
@@ -13,7 +15,7 @@ ghost use Rattle.record_steps.specs.Moves.{place_or};
 use payloads::Payload;
 
 // Where a step goes, or that it is none.
-#[derive(Drop)]
+#[derive(Clone, Copy)]
 pub enum Step {
     To(usize),
     Nothing,

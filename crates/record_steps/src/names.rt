@@ -5,7 +5,7 @@ ghost use Rattle.trees.specs.Steps.{part_of, name_of, is_named};
 ghost use Rattle.record_steps.specs.Views.{part_in, text_of};
 
 // A part of the piece: where it starts and how many bytes it has. Or none.
-#[derive(Drop)]
+#[derive(Clone, Copy)]
 pub enum Text {
     Part(usize, usize),
     Nothing,

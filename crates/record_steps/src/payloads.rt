@@ -4,7 +4,7 @@ ghost use Rattle.trees.specs.Steps.{kinds};
 ghost use Rattle.record_steps.specs.Payloads.{length_among, ways, words_in};
 
 // A number of words; a switch's count word and two words for each case; or that no kind has this number.
-#[derive(Drop)]
+#[derive(Clone, Copy)]
 pub enum Payload {
     Words(u8),
     Cases(u64),

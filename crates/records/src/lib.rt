@@ -1,6 +1,7 @@
 // The numbers of records and questions, under the names that the definitions have for them: `K_BIN` is `kind Bin` of specs/Kinds.antt, `D_PACKED` is
 // `d_packed` of specs/Details.antt, `Q_TOKEN` is `q_token` of specs/Questions.antt, `DEPTH_LIMIT` is `depth_limit` of specs/Limits.antt.
 // tools/same-numbers holds code, definitions and header against each other.
+#![tactic(auto)]
 
 // Kinds of nodes.
 // `Type`

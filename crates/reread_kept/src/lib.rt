@@ -1,4 +1,6 @@
 // The pieces that re-reading keeps, in front of what is read and behind it. Nothing here knows the grammar.
+#![tactic(auto)]
+
 ghost use Rattle.std.specs.Prelude.{◌≡◌, max, ◌+◌, ◌≤◌, ◌<◌, length, take, drop};
 ghost use Rattle.program.specs.Class.{is_word};
 ghost use Rattle.records.specs.Limits.{half_limit};

@@ -1,4 +1,6 @@
 // The older directory: question 22, and where an old piece starts. Nothing here knows the grammar.
+#![tactic(auto)]
+
 ghost use Rattle.std.specs.Prelude.{◌≡◌, ◌-◌, ◌≤◌};
 ghost use Rattle.records.specs.Pieces.{olds};
 ghost use Rattle.piece_directory.specs.Olds.{answers, olds_of, Joined, Passed, Reached};
@@ -51,7 +53,7 @@ pub fn chained(directory: &[u64], older: Older, text_len: usize) -> bool
 }
 
 // The old piece that starts at a place with a counter; or that none does, with the number from which to look for a later place.
-#[derive(Drop)]
+#[derive(Clone, Copy)]
 pub enum Found {
     At(usize),
     Nothing(usize),
@@ -108,7 +110,7 @@ pub fn find_old(
 }
 
 // An edit: how long both texts are, and their common end.
-#[derive(Drop)]
+#[derive(Clone, Copy)]
 pub struct Edit {
     pub older: usize,
     pub newer: usize,

@@ -12,7 +12,7 @@ use reread_older::{Edit, Found, join_old};
 use text_whole::Verdict;
 
 // What the pass goes by, beside texts and directory: the length of the texts' common end, how many words are lent, and how many entries.
-#[derive(Drop)]
+#[derive(Clone, Copy)]
 pub struct Known {
     pub end: usize,
     pub words: usize,
@@ -20,14 +20,14 @@ pub struct Known {
 }
 
 // How the pass ends: what is read ends there, and the old pieces from that number on are kept behind it; or a refusal.
-#[derive(Drop)]
+#[derive(Clone, Copy)]
 pub enum Plan {
     Keep(Spot, usize),
     Refused(u64, u64),
 }
 
 // What follows a piece: more are read, and old starts are looked for from that piece on; or the old ones from that number on are kept.
-#[derive(Drop)]
+#[derive(Clone, Copy)]
 enum Step {
     More(usize),
     Keep(usize),

@@ -1,11 +1,13 @@
 // The text as a whole: questions 1 and 2, and what an older and a newer text have in common.
+#![tactic(auto)]
+
 ghost use Rattle.std.specs.Prelude.{◌≡◌, ℕ, ◌+◌, ◌-◌, ◌≤◌, ◌<◌, length, get_or};
 ghost use Rattle.records.specs.Pieces.{text_asked, common, common_end};
 ghost use Rattle.text_whole.specs.Verdicts.{verdict};
 ghost use Rattle.text_whole.specs.Texts.{Same, Shares, Ends};
 
 // What the questions answer: all is fine, or the number and the place of the first no.
-#[derive(Drop)]
+#[derive(Clone, Copy)]
 pub enum Verdict {
     Fine,
     Refused(u64, u64),

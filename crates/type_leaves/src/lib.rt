@@ -1,5 +1,7 @@
 // The types that hold no other, and nodes that are a header, or a header and one word. Each function writes the words of what it reads behind the
 // cursor.
+#![tactic(auto)]
+
 ghost use Rattle.std.specs.Prelude.{◌≡◌, List, [], ℕ};
 ghost use Rattle.program.specs.Prog.{ret};
 ghost use Rattle.records.specs.Words.{header, node};

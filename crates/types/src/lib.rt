@@ -1,4 +1,6 @@
 // The reader of types (parser.rs, "Types"). Each function writes the words of what it reads behind the cursor.
+#![tactic(auto)]
+
 ghost use Rattle.std.specs.Prelude.{◌≡◌, List, [], ℕ, ◌+◌, ◌<◌};
 ghost use Rattle.grammar.specs.Types.{listed, struct_fields, parse_type_list, array_type, struct_type, packed_type, parse_base_type, suffixes, no_type, parse_type};
 ghost use Rattle.lexer.specs.Table.{Classes};
@@ -8,7 +10,7 @@ ghost use Rattle.types.specs.Reading.{typed, Types};
 use lexer::Parsed;
 
 // A list's answer: how many, and 1 where `...` ends it.
-#[derive(Drop)]
+#[derive(Clone, Copy)]
 pub struct Listed {
     pub p: Parsed,
     pub n: u16,

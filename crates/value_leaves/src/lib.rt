@@ -1,4 +1,6 @@
 // The values that hold no other, and what stands in front of constant expressions. Each function writes the words of what it reads behind the cursor.
+#![tactic(auto)]
+
 ghost use Rattle.std.specs.Prelude.{◌≡◌, true, List, [], ◌∷◌, ℕ};
 ghost use Rattle.program.specs.Bytes.{bytes};
 ghost use Rattle.program.specs.Prog.{ret};
@@ -14,7 +16,7 @@ use lexer::Parsed;
 use number_nodes::Hit;
 
 // An operator's rank, and whether one stands there.
-#[derive(Drop)]
+#[derive(Clone, Copy)]
 pub struct Oper {
     pub p: Parsed,
     pub r: u8,
@@ -80,7 +82,7 @@ pub fn match_bin_op(classes: &[u8; 256], text: &[u8], p: Parsed) -> Oper
 }
 
 // Where the reader is behind one flag, or behind them all; 1 where `inbounds` was among them.
-#[derive(Drop)]
+#[derive(Clone, Copy)]
 pub struct Flags {
     pub p: Parsed,
     pub v: u8,

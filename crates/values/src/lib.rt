@@ -1,4 +1,6 @@
 // The reader of values and constants (parser.rs, "Values"). Each function writes the words of what it reads behind the cursor.
+#![tactic(auto)]
+
 ghost use Rattle.std.specs.Prelude.{[], ◌+◌};
 ghost use Rattle.grammar.specs.Types.{listed, parse_type};
 ghost use Rattle.grammar.specs.Values.{pair_child, pair_list, aggregate, packed_const, gep_indices, parse_ce_gep, parse_ce_conv, parse_ce_bin, const_exprs, parse_value, parse_typed_val};
@@ -276,7 +278,7 @@ pub fn parse_value(
 }
 
 // How many children there are behind a typed value.
-#[derive(Drop)]
+#[derive(Clone, Copy)]
 pub struct Pair {
     pub p: Parsed,
     pub n: u16,

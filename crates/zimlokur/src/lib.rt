@@ -1,4 +1,6 @@
 // The calls for firmware and test benches, with C's prototypes in include/zimlokur.h.
+#![tactic(auto)]
+
 ghost use Rattle.std.specs.Prelude.{◌≡◌, length};
 ghost use Rattle.grammar.specs.Function.{reading_of, rereading_of};
 ghost use Rattle.text_lines.specs.Place.{position_of};
