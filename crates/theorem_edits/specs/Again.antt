@@ -1,7 +1,7 @@
 -- Demand 3 on these definitions: a block takes at least a byte, and its counter stays at most 2^32, so re-reading leaves what a full reading of the
 -- newer text leaves, or refuses as it does.
 -- Assumes nothing.
-use Rattle.std.specs.Prelude.{◌≡◌, refl, Bool, true, false, ◌&&◌, not, List, [], ◌∷◌, ℕ, zero, suc, ◌+◌, ◌-◌, ◌≤◌, eqb, length, take, drop}
+use Rattle.std.specs.Prelude.{◌≡◌, refl, Bool, true, false, ◌&&◌, not, List, [], ◌∷◌, ◌++◌, ℕ, zero, suc, ◌+◌, ◌-◌, ◌≤◌, eqb, length, take, drop}
 use Rattle.std.proofs.Common.{sym, ◌∙◌, subst, arith}
 use Rattle.std.proofs.Math.Option.{some}
 use Rattle.program.specs.Class.{is_word}
@@ -14,7 +14,7 @@ use Rattle.theorem_edits.specs.Law.{Grammar}
 use Rattle.theorem_edits.specs.Same.{or_as_lent, same, chained}
 use Rattle.theorem_edits.specs.Programs.{grammar}
 use Rattle.grammar.specs.Lexer.{eat_ws, refuse, place, name_step, quote_step, quote_end, space_step, is_byte, byte_if, Word, plain, quoted, is_empty, is_empty_word, read_word}
-use Rattle.grammar.specs.Body.{Statement, Where, in_block, statement_of, parse_statement, parse_body, parse_block, parse_head}
+use Rattle.grammar.specs.Body.{Statement, label, instruction, terminator, finish_block, over_at, Where, in_block, statement_of, parse_statement, parse_body, parse_block, parse_head}
 use Rattle.grammar.specs.Function.{head_at, block_at, reading_of, rereading_of}
 
 -- a part that moves, then the rest
@@ -71,6 +71,7 @@ unquoted_moves i j s (plain (x ∷ w)) some_plain e =
     let t : take (scan_len name_step 0 s) s ≡ x ∷ w = cc in
     let n : i + scan_len name_step 0 s ≡ j = cc in
     omega (arith, some_taken (scan_len name_step 0 s) s x w t)
+unquoted_moves i j s (plain []) x5 e = elim x5 [ ]
 unquoted_moves i j s (quoted w) some_quoted e = let z : ◌≡◌ {A = ℕ} 0 1 = cc in absurd (omega arith)
 
 word_moves : (i j : ℕ) (s : List ℕ) (w : Word) → Some w → run read_word i s ≡ ok w j → suc i ≤ j
@@ -102,11 +103,21 @@ pub statement_moves : (b : Where) (i j : ℕ) (s : List ℕ) (a : Statement) →
 unfolding parse_statement place run ◌>>=◌
 statement_moves b i j s a e = byte_moves 37 _ _ i j s a (λ m t. word_statement_moves i i m b s a t) e
 
+-- what a block's loop does behind a statement
+abbrev behind_statement : (u l n over : ℕ) → List ℕ → Statement → Prog (List ℕ)
+behind_statement u l n over acc s = do
+  j ← place
+  elim s [
+    | label d m ↦ parse_body u d m n over acc
+    | instruction d ws ↦ parse_body u d l (n + 1) (over_at n over j) (acc ++ ws)
+    | terminator d ws ↦ finish_block d l n over acc ws
+  ]
+
 body_moves : (u c l n over : ℕ) (acc s : List ℕ) (e : ℕ) (ws : List ℕ) → run (parse_body u c l n over acc) 0 s ≡ ok ws e → 1 ≤ e
 unfolding parse_body run refuse
 body_moves zero c l n over acc s e ws h = let z : ◌≡◌ {A = ℕ} 0 1 = cc in absurd (omega arith)
 body_moves (suc u) c l n over acc s e ws h =
-    space_moves _ e s ws (λ i r w. last_moves 125 _ i e r ws (λ m x. then_moves (parse_statement (in_block c l n)) _ i m r ws (λ a m2 y. statement_moves (in_block c l n) i m2 r a y) x) w) h
+    space_moves _ e s ws (λ i r w. last_moves 125 (parse_statement (in_block c l n) >>= behind_statement u l n over acc) i e r ws (λ m x. then_moves (parse_statement (in_block c l n)) (behind_statement u l n over acc) i m r ws (λ a m2 y. statement_moves (in_block c l n) i m2 r a y) x) w) h
 
 pub block_moves : (c : ℕ) (s : List ℕ) (e : ℕ) (ws : List ℕ) → run (parse_block c) 0 s ≡ ok ws e → 1 ≤ e
 unfolding parse_block

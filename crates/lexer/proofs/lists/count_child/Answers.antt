@@ -1,0 +1,11 @@
+-- The comparison is the one that the definition makes.
+use mathlib.Core.Path.{◌∙◌, sym}
+use borrow.Author.Tests.{lt-ltb, le-ltb}
+use borrow.Author.Rules.{rules}
+use Rattle.lexer.proofs.lists.count_child.Goals as goal
+
+pub returns-then-n-lt-CHILD_LIMIT : goal.returns-then-n-lt-CHILD_LIMIT
+returns-then-n-lt-CHILD_LIMIT c = rw (lt-ltb _ _ c.if-n-lt-CHILD_LIMIT.true)
+
+pub returns : goal.returns
+returns c = c.refuse.ensures ∙ sym (rw (le-ltb _ _ c.if-n-lt-CHILD_LIMIT.false))

@@ -1,0 +1,6 @@
+-- At a cursor by `at_byte`; a refusal looks at nothing.
+use borrow.Author.Rules.{rules}
+use Rattle.lexer.proofs.looks.Goals as goal
+
+pub returns-in-Ok : goal.returns-in-Ok
+returns-in-Ok c = rw c.in-Ok.is c.at_byte.ensures

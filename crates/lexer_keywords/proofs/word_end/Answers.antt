@@ -1,0 +1,18 @@
+use mathlib.Core.Path.{◌≡◌, refl, sym, ◌∙◌}
+use Prim.Native.Nat.{◌+◌, ◌-◌}
+use lib.ListN.{length, drop}
+use Rattle.program.specs.Prog.{lead_word}
+use Rattle.lexer_keywords.proofs.Ranks.{lead_more, lead_stop, lead_out}
+use borrow.Author.Rules.{rules}
+use Rattle.lexer_keywords.proofs.word_end.Goals as goal
+
+pub returns-then-class-gt-WORD : goal.returns-then-class-gt-WORD
+returns-then-class-gt-WORD c =
+    sym
+    (c.loop-i.invariant ∙ lead_stop _ _ _ c.loop-i-test.true c.class.ensures c.if-class-gt-WORD.true)
+
+pub loop-i-preserved : goal.loop-i-preserved
+loop-i-preserved c = c.loop-i.invariant ∙ lead_more _ _ _ c.loop-i-test.true c.class.ensures c.if-class-gt-WORD.false
+
+pub returns : goal.returns
+returns c = sym (c.loop-i.invariant ∙ lead_out _ _ c.loop-i-test.false)

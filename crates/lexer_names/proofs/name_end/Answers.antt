@@ -1,0 +1,20 @@
+use mathlib.Core.Path.{◌≡◌, refl, sym, ◌∙◌}
+use Prim.Native.Nat.{◌+◌, ◌-◌}
+use lib.ListN.{length, drop}
+use Rattle.program.specs.Prog.{scan_len}
+use Rattle.grammar.specs.Lexer.{name_step}
+use Rattle.lexer.proofs.Scan.{scan_out}
+use Rattle.lexer_names.proofs.Strings.{name_more, name_stop}
+use borrow.Author.Rules.{rules}
+use Rattle.lexer_names.proofs.name_end.Goals as goal
+
+pub returns-then-class-gt-NAME : goal.returns-then-class-gt-NAME
+returns-then-class-gt-NAME c =
+    sym
+    (c.loop-i.invariant ∙ name_stop _ _ _ c.loop-i-test.true c.class.ensures c.if-class-gt-NAME.true)
+
+pub loop-i-preserved : goal.loop-i-preserved
+loop-i-preserved c = c.loop-i.invariant ∙ name_more _ _ _ c.loop-i-test.true c.class.ensures c.if-class-gt-NAME.false
+
+pub returns : goal.returns
+returns c = sym (c.loop-i.invariant ∙ scan_out name_step _ _ _ c.loop-i-test.false)

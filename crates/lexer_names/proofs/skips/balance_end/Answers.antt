@@ -1,0 +1,33 @@
+use mathlib.Core.Path.{◌≡◌, refl, sym, ◌∙◌}
+use mathlib.Core.Logic.{⊎_elim}
+use native.Mathlib.Omega.{arith}
+use Prim.Native.Nat.{◌+◌, ◌-◌, ◌≤◌}
+use lib.ListN.{length, drop}
+use Rattle.program.specs.Prog.{scan_len}
+use Rattle.grammar.specs.Lexer.{balance_step}
+use Rattle.lexer.proofs.Scan.{scan_out}
+use Rattle.lexer_names.proofs.Strings.{balance_left, balance_other, balance_right, balance_stop}
+use borrow.Author.Rules.{rules}
+use Rattle.lexer_names.proofs.skips.balance_end.Goals as goal
+
+pub loop-i-init : goal.loop-i-init
+loop-i-init c = (omega arith, refl)
+
+pub overflow_add-q : goal.overflow_add-q
+overflow_add-q c = omega (arith, c.loop-i.invariant.0)
+
+pub returns-then-q-eq0 : goal.returns-then-q-eq0
+returns-then-q-eq0 c =
+    sym
+    (c.loop-i.invariant.1 ∙ balance_stop _ _ _ _ _ c.loop-i-test.true c.if-b-left.false c.if-b-right.true c.if-q-eq0.true)
+
+pub loop-i-preserved : goal.loop-i-preserved
+loop-i-preserved c =
+    ⊎_elim (λ w. rw w.1
+    (omega (arith, c.loop-i.invariant.0), c.loop-i.invariant.1 ∙ balance_left _ _ _ _ _ c.loop-i-test.true w.0.taken)) (⊎_elim (λ w. rw w.3
+    (omega (arith, c.loop-i.invariant.0), c.loop-i.invariant.1 ∙ balance_right _ _ _ _ _ c.loop-i-test.true w.0.left w.1.taken w.2.left))
+    (λ w. rw w.2
+    (omega (arith, c.loop-i.invariant.0), c.loop-i.invariant.1 ∙ balance_other _ _ _ _ _ c.loop-i-test.true w.0.left w.1.left))) c.if-b-left.branch
+
+pub returns : goal.returns
+returns c = sym (c.loop-i.invariant.1 ∙ scan_out (balance_step _ _) _ _ _ c.loop-i-test.false)

@@ -1,0 +1,10 @@
+-- A `_` changes nothing; any other byte is a digit more.
+use Rattle.number_counts.proofs.Count.{add_none, add_some}
+use borrow.Author.Rules.{rules}
+use Rattle.number_counts.proofs.add_digit.Goals as goal
+
+pub returns-then-b-eq95 : goal.returns-then-b-eq95
+returns-then-b-eq95 c = add_none _ _ c.if-b-eq95.true
+
+pub returns : goal.returns
+returns c = add_some _ _ _ _ c.if-b-eq95.false c.class-d.ensures c.shift.ensures

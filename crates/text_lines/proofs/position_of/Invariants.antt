@@ -1,0 +1,13 @@
+-- The invariant `LineAt`: line and column of i, and what the bytes from i up to the place still add to them.
+use native.Mathlib.Omega.{arith}
+use mathlib.Core.Logic.{⊎_elim}
+use Prim.Native.Nat.{◌-◌}
+use Rattle.text_lines.proofs.Columns.{LineAt, line_start, line_feed, line_more, line_end, line_past}
+use borrow.Author.Rules.{rules}
+use Rattle.text_lines.proofs.position_of.Given as goal
+
+abbrev pub invariant-loop-i : goal.invariant-loop-i
+invariant-loop-i l = LineAt l.text l.place l.i l.line l.column
+
+abbrev pub decreases-loop-i : goal.decreases-loop-i
+decreases-loop-i l = l.place - l.i
