@@ -2,7 +2,7 @@
 -- (`head_words`, `block_words`), questions 20 and 21 leave room for them, and the pieces stand one behind the other.
 -- Assumes nothing.
 use Rattle.std.specs.Prelude.{◌≡◌, refl, List, [], ◌∷◌, ◌++◌, ℕ, zero, suc, ◌+◌, ◌-◌, ◌*◌, ◌/◌, ◌%◌, ◌≤◌, ◌<◌, length, get_or, take, drop, replicate}
-use Rattle.std.proofs.Common.{sym, ap, ◌∙◌, append_assoc, append-nil, inl, inr, arith, length-append, length-drop, take_at, drop_at}
+use Rattle.std.proofs.Common.{subst, sym, ap, ◌∙◌, append_assoc, append-nil, inl, inr, arith, length-append, length-drop, take_at, drop_at}
 use Rattle.std.proofs.Math.Arith.{digits_div, digits_mod}
 use Rattle.records.specs.Limits.{text_limit, half_limit, entry_words}
 use Rattle.records.specs.Kinds.{kind}
@@ -165,8 +165,8 @@ each_inside T pos at ys (stop q p) t h l b i = absurd h
 each_inside T pos at ys (item e c ws r) empty h l b i = tt
 each_inside T pos at ys (item e c ws r) (tree k d p cs ts) h l b zero =
     let s : e < half_limit = omega arith in
-    let m : (pos * half_limit + e) % half_limit ≡ e = digits_mod pos s in
-    rw m h.1.0
+    let m : piece_length (entries pos at (item e c ws r) ++ ys) 0 ≡ e = digits_mod pos s in
+    subst (λ (x : ℕ). Formed x (tree k d p cs empty)) (sym m) h.1.0
 each_inside T pos at ys (item e c ws r) (tree k d p cs ts) h l b (suc i) =
     let n : piece_length (pack pos e ∷ pack at (length ws) ∷ c ∷ (entries (pos + e) (at + length ws) r ++ ys)) (suc i) ≡ piece_length (entries (pos + e) (at + length ws) r ++ ys) i =
     next_length (entries (pos + e) (at + length ws) r ++ ys) (pack pos e) (pack at (length ws)) c i in

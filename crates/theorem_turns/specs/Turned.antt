@@ -39,7 +39,7 @@ pub data Turned (n : ℕ) : (A : Type 0) (f g : Prog A) → Type 1 where
   at_phi_items : (u v m : ℕ) (acc : List ℕ) → Enough m u → Enough m v → Turned n Listed (phi_items u m acc) (phi_items v m acc)
   at_switch_cases : (u v m : ℕ) (ints labels : List ℕ) → Enough m u → Enough m v → Turned n Cases (switch_cases u m ints labels) (switch_cases v m ints labels)
 
-pub turned_same : {A : Type 0} {n : ℕ} {f g : Prog A} → Turned n A f g → Same.Same n f g
+pub turned_same : {n : ℕ} {A : Type 0} {f g : Prog A} → Turned n A f g → Same.Same n f g
 turned_same as_is = Same.alike
 turned_same (further d e) = Same.as_well (turned_same d) (turned_same e)
 turned_same (looks h) = Same.looks λ b. turned_same (h b)

@@ -1,5 +1,4 @@
 use mathlib.Core.Path.{◌≡◌, refl, sym, ◌∙◌}
-use mathlib.Core.Logic.{⊎_elim}
 use native.Mathlib.Omega.{arith}
 use Prim.Native.Nat.{◌+◌, ◌-◌, ◌≤◌}
 use lib.ListN.{length, drop}
@@ -9,6 +8,7 @@ use Rattle.lexer.proofs.Scan.{scan_out}
 use Rattle.lexer_names.proofs.Strings.{balance_left, balance_other, balance_right, balance_stop}
 use borrow.Author.Rules.{rules}
 use Rattle.lexer_names.proofs.skips.balance_end.Goals as goal
+use Rattle.lexer_names.proofs.skips.balance_end.Goals.{then-b-left, else-b-left+then-b-right+else-q-eq0, else-b-left+else-b-right}
 
 pub loop-i-init : goal.loop-i-init
 loop-i-init c = (omega arith, refl)
@@ -23,11 +23,14 @@ returns-then-q-eq0 c =
 
 pub loop-i-preserved : goal.loop-i-preserved
 loop-i-preserved c =
-    ⊎_elim (λ w. rw w.1
-    (omega (arith, c.loop-i.invariant.0), c.loop-i.invariant.1 ∙ balance_left _ _ _ _ _ c.loop-i-test.true w.0.taken)) (⊎_elim (λ w. rw w.3
-    (omega (arith, c.loop-i.invariant.0), c.loop-i.invariant.1 ∙ balance_right _ _ _ _ _ c.loop-i-test.true w.0.left w.1.taken w.2.left))
-    (λ w. rw w.2
-    (omega (arith, c.loop-i.invariant.0), c.loop-i.invariant.1 ∙ balance_other _ _ _ _ _ c.loop-i-test.true w.0.left w.1.left))) c.if-b-left.branch
+    elim c.if-b-left.branch [
+      | then-b-left w ↦
+          rw w.q-is (omega (arith, c.loop-i.invariant.0), c.loop-i.invariant.1 ∙ balance_left _ _ _ _ _ c.loop-i-test.true w.if-b-left.true)
+      | else-b-left+then-b-right+else-q-eq0 w ↦
+          rw w.q-is (omega (arith, c.loop-i.invariant.0), c.loop-i.invariant.1 ∙ balance_right _ _ _ _ _ c.loop-i-test.true w.if-b-left.false w.if-b-right.true w.if-q-eq0.false)
+      | else-b-left+else-b-right w ↦
+          rw w.q-is (omega (arith, c.loop-i.invariant.0), c.loop-i.invariant.1 ∙ balance_other _ _ _ _ _ c.loop-i-test.true w.if-b-left.false w.if-b-right.false)
+    ]
 
 pub returns : goal.returns
 returns c = sym (c.loop-i.invariant.1 ∙ scan_out (balance_step _ _) _ _ _ c.loop-i-test.false)

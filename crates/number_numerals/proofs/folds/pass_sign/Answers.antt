@@ -1,0 +1,9 @@
+-- By the parts of the state.
+-- Assumes nothing.
+use borrow.Author.Rules.{rules}
+use Rattle.number_numerals.specs.Numerals.{sign_passed}
+use Rattle.number_numerals.proofs.folds.pass_sign.Goals as goal
+
+pub returns : goal.returns
+unfolding sign_passed
+returns c = c.moved.ensures

@@ -1,0 +1,14 @@
+-- The invariant: what stands before i is as wanted; storing a 0 makes it so for i.
+use mathlib.Core.Path.{◌≡◌, refl, ◌∙◌}
+use Prim.Native.Nat.{◌-◌, ◌≤◌}
+use native.Mathlib.Omega.{arith}
+use lib.ListN.{length, length-set}
+use Rattle.piece_directory.proofs.Stores.{zeros, zeros_none, zeros_more, zeros_all}
+use borrow.Author.Rules.{rules}
+use Rattle.piece_directory.proofs.arrays.clear.Given as goal
+
+abbrev pub invariant-loop-i : goal.invariant-loop-i
+invariant-loop-i l = (l.from ≤ l.i) × (l.i - l.from ≤ length l.initial.words - l.from) × (length l.words ≡ length l.initial.words) × (l.words ≡ zeros l.initial.words l.from l.i)
+
+abbrev pub decreases-loop-i : goal.decreases-loop-i
+decreases-loop-i l = length l.initial.words - l.i

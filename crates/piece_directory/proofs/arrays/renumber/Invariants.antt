@@ -1,0 +1,13 @@
+-- The invariant: k entries are moved, and pos and word are where the next starts; sums stay below 2^32 as the last does; the counters stay.
+use mathlib.Core.Path.{◌≡◌}
+use Prim.Native.Nat.{◌-◌}
+use native.Mathlib.Omega.{arith}
+use Rattle.piece_directory.proofs.Moved.{Renumbering, renumber_first, place_ends, first_ends, renumber_next}
+use borrow.Author.Rules.{rules}
+use Rattle.piece_directory.proofs.arrays.renumber.Given as goal
+
+abbrev pub invariant-loop-k : goal.invariant-loop-k
+invariant-loop-k l = Renumbering l.initial.directory l.spot.number l.n l.spot.pos l.spot.word l.k l.pos l.word l.directory
+
+abbrev pub decreases-loop-k : goal.decreases-loop-k
+decreases-loop-k l = l.n - l.k

@@ -1,0 +1,16 @@
+-- Where the words still to be counted end, from where the code has come to, is where all end.
+use mathlib.Core.Path.{◌≡◌, sym, ◌∙◌}
+use Prim.Native.Nat.{◌+◌, ◌-◌, ◌*◌}
+use native.Mathlib.Omega.{arith}
+use lib.ListN.{drop}
+use Rattle.records.specs.Limits.{entry_words}
+use Rattle.pieces_listing.specs.Lines.{words_end}
+use Rattle.pieces_listing.proofs.Laws.{next_end, end_over, end_done}
+use borrow.Author.Rules.{rules}
+use Rattle.pieces_listing.proofs.words_end.Given as goal
+
+abbrev pub invariant-loop-i : goal.invariant-loop-i
+invariant-loop-i l = words_end l.end (l.n - l.i) (drop (l.i * entry_words) l.directory) ≡ words_end 0 l.n l.directory
+
+abbrev pub decreases-loop-i : goal.decreases-loop-i
+decreases-loop-i l = l.n - l.i
