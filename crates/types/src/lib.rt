@@ -38,7 +38,7 @@ fn no_type(depth: usize) -> u64
 }
 
 // `{ T, T, .. }`, behind the opening brace.
-#[cycle(array_type_packed_type_parse_base_type_parse_struct_fields_parse_type_parse_type_list_struct_type_type_suffixes)]
+#[cycle(type_readers)]
 fn parse_struct_fields(
     classes: &[u8; 256],
     text: &[u8],
@@ -77,7 +77,7 @@ fn parse_struct_fields(
 }
 
 // Types with attributes, `...` in the last place, through the parenthesis (`parse_type_list`). The return type counts with them.
-#[cycle(array_type_packed_type_parse_base_type_parse_struct_fields_parse_type_parse_type_list_struct_type_type_suffixes)]
+#[cycle(type_readers)]
 pub fn parse_type_list(
     classes: &[u8; 256],
     text: &[u8],
@@ -128,7 +128,7 @@ pub fn parse_type_list(
 }
 
 // `[N x T]` and `<N x T>`, behind the opening byte.
-#[cycle(array_type_packed_type_parse_base_type_parse_struct_fields_parse_type_parse_type_list_struct_type_type_suffixes)]
+#[cycle(type_readers)]
 fn array_type(
     classes: &[u8; 256],
     text: &[u8],
@@ -153,7 +153,7 @@ fn array_type(
 }
 
 // `{..}`, behind the opening brace.
-#[cycle(array_type_packed_type_parse_base_type_parse_struct_fields_parse_type_parse_type_list_struct_type_type_suffixes)]
+#[cycle(type_readers)]
 fn struct_type(
     classes: &[u8; 256],
     text: &[u8],
@@ -171,7 +171,7 @@ fn struct_type(
 }
 
 // `<{..}>` and `<N x T>`, behind the `<`.
-#[cycle(array_type_packed_type_parse_base_type_parse_struct_fields_parse_type_parse_type_list_struct_type_type_suffixes)]
+#[cycle(type_readers)]
 fn packed_type(
     classes: &[u8; 256],
     text: &[u8],
@@ -194,7 +194,7 @@ fn packed_type(
 }
 
 // A type without what may stand behind it. No keyword begins with a byte that is tried first.
-#[cycle(array_type_packed_type_parse_base_type_parse_struct_fields_parse_type_parse_type_list_struct_type_type_suffixes)]
+#[cycle(type_readers)]
 fn parse_base_type(
     classes: &[u8; 256],
     text: &[u8],
@@ -229,7 +229,7 @@ fn parse_base_type(
 }
 
 // What may stand behind a type, whose words begin at p0.
-#[cycle(array_type_packed_type_parse_base_type_parse_struct_fields_parse_type_parse_type_list_struct_type_type_suffixes)]
+#[cycle(type_readers)]
 fn type_suffixes(
     classes: &[u8; 256],
     text: &[u8],
@@ -272,7 +272,7 @@ fn type_suffixes(
 }
 
 // A type (`parse_type`). At a parenthesis behind it that no `*` follows the cursor is back at the parenthesis.
-#[cycle(array_type_packed_type_parse_base_type_parse_struct_fields_parse_type_parse_type_list_struct_type_type_suffixes)]
+#[cycle(type_readers)]
 pub fn parse_type(
     classes: &[u8; 256],
     text: &[u8],

@@ -11,13 +11,13 @@ pub returns-then-not-is_header : goal.returns-then-not-is_header
 unfolding child_of
 returns-then-not-is_header c =
     simp
-    (child_of, ← c.word_at-header.ensures, ← c.is_header.ensures, not-true c.is_header.result c.if-not-is_header.true)
+    (child_of, ← c.word_at-header.ensures, ← c.is_header.ensures, c.if-not-is_header.true)
 
 pub returns-then-not-has_children : goal.returns-then-not-has_children
 unfolding child_of
 returns-then-not-has_children c =
     simp
-    (child_of, ← c.word_at-header.ensures, ← c.is_header.ensures, not-false c.is_header.result c.if-not-is_header.false, ← c.has_children.ensures, not-true c.has_children.result c.if-not-has_children.true)
+    (child_of, ← c.word_at-header.ensures, ← c.is_header.ensures, c.if-not-is_header.false, ← c.has_children.ensures, c.if-not-has_children.true)
 
 pub overflow_add-at : goal.overflow_add-at
 overflow_add-at c =
@@ -25,10 +25,10 @@ overflow_add-at c =
       fits = omega (
         arith,
         within c.args.words.now c.args.at _ c.word_at-header.ensures
-            (sym c.is_header.ensures ∙ not-false c.is_header.result c.if-not-is_header.false),
+            (sym c.is_header.ensures ∙ c.if-not-is_header.false),
       );
     }
 
 pub returns : goal.returns
 returns c =
-    c.step_behind.ensures ∙ by_length c.args.words.now c.args.at _ _ _ _ _ c.word_at-header.ensures (sym c.is_header.ensures ∙ not-false c.is_header.result c.if-not-is_header.false) (sym c.has_children.ensures ∙ not-false c.has_children.result c.if-not-has_children.false) c.kind_in.ensures c.detail_in.ensures c.word_at.ensures c.payload_length-payload.ensures
+    c.step_behind.ensures ∙ by_length c.args.words.now c.args.at _ _ _ _ _ c.word_at-header.ensures (sym c.is_header.ensures ∙ c.if-not-is_header.false) (sym c.has_children.ensures ∙ c.if-not-has_children.false) c.kind_in.ensures c.detail_in.ensures c.word_at.ensures c.payload_length-payload.ensures

@@ -11,13 +11,13 @@ pub returns-then-not-is_header : goal.returns-then-not-is_header
 unfolding name_of
 returns-then-not-is_header c =
     simp
-    (name_of, ← c.word_at-header.ensures, ← c.is_header.ensures, not-true c.is_header.result c.if-not-is_header.true)
+    (name_of, ← c.word_at-header.ensures, ← c.is_header.ensures, c.if-not-is_header.true)
 
 pub returns-then-not-is_named : goal.returns-then-not-is_named
 unfolding name_of
 returns-then-not-is_named c =
     simp
-    (name_of, ← c.word_at-header.ensures, ← c.is_header.ensures, not-false c.is_header.result c.if-not-is_header.false, ← c.kind_in.ensures, ← c.is_named.ensures, not-true c.is_named.result c.if-not-is_named.true)
+    (name_of, ← c.word_at-header.ensures, ← c.is_header.ensures, c.if-not-is_header.false, ← c.kind_in.ensures, ← c.is_named.ensures, c.if-not-is_named.true)
 
 pub overflow_add-at : goal.overflow_add-at
 overflow_add-at c =
@@ -25,7 +25,7 @@ overflow_add-at c =
       fits = omega (
         arith,
         within c.args.words.now c.args.at _ c.word_at-header.ensures
-            (sym c.is_header.ensures ∙ not-false c.is_header.result c.if-not-is_header.false),
+            (sym c.is_header.ensures ∙ c.if-not-is_header.false),
       );
     }
 
@@ -33,4 +33,4 @@ pub returns : goal.returns
 unfolding name_of
 returns c =
     simp
-    (name_of, ← c.word_at-header.ensures, ← c.is_header.ensures, not-false c.is_header.result c.if-not-is_header.false, ← c.kind_in.ensures, ← c.is_named.ensures, not-false c.is_named.result c.if-not-is_named.false, ← c.word_at.ensures, ← c.part.ensures)
+    (name_of, ← c.word_at-header.ensures, ← c.is_header.ensures, c.if-not-is_header.false, ← c.kind_in.ensures, ← c.is_named.ensures, c.if-not-is_named.false, ← c.word_at.ensures, ← c.part.ensures)

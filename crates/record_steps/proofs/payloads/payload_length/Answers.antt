@@ -22,4 +22,4 @@ pub returns-in-54 : goal.returns-in-54
 returns-in-54 c = counted _ _ _ _ _ c.alike.ensures c.in-54.is (cases _ _)
 
 pub returns-in_default : goal.returns-in_default
-returns-in_default c = uncounted _ _ _ _ c.alike.ensures c.in_default.rest
+returns-in_default c = uncounted _ _ _ _ c.alike.ensures (search rules)

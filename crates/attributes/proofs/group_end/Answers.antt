@@ -1,0 +1,20 @@
+use mathlib.Core.Path.{◌≡◌, refl, sym, ◌∙◌}
+use Prim.Native.Nat.{◌+◌, ◌-◌}
+use lib.ListN.{length, drop}
+use Rattle.program.specs.Prog.{scan_len}
+use Rattle.grammar.specs.Attributes.{group_step}
+use Rattle.lexer.proofs.Scan.{scan_out}
+use Rattle.attributes.proofs.AttrLaws.{group_more, group_stop}
+use borrow.Author.Rules.{rules}
+use Rattle.attributes.proofs.group_end.Goals as goal
+
+pub returns-then-class-ge-DIGIT : goal.returns-then-class-ge-DIGIT
+returns-then-class-ge-DIGIT c =
+    sym
+    (c.loop-i.invariant ∙ group_stop _ _ _ c.loop-i-test.true c.class.ensures c.if-class-ge-DIGIT.true)
+
+pub loop-i-preserved : goal.loop-i-preserved
+loop-i-preserved c = c.loop-i.invariant ∙ group_more _ _ _ c.loop-i-test.true c.class.ensures c.if-class-ge-DIGIT.false
+
+pub returns : goal.returns
+returns c = sym (c.loop-i.invariant ∙ scan_out group_step _ _ _ c.loop-i-test.false)

@@ -1,0 +1,9 @@
+-- The table's words, cut by their lengths, are those of the definition.
+use Rattle.grammar.specs.Attributes.{arith_flags, skip_arith_flags}
+use Rattle.lexer.specs.Table.{cut}
+use borrow.Author.Rules.{rules}
+use Rattle.attributes.proofs.skip_arith_flags.Goals as goal
+
+pub returns : goal.returns
+unfolding arith_flags skip_arith_flags cut
+returns c = c.skip_all.ensures

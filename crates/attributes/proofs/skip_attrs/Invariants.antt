@@ -1,0 +1,13 @@
+-- The invariant: the program comes to itself with `left` turns to go; an attribute takes one of them, and no text has as many.
+use Rattle.records.specs.Limits.{turns}
+use Rattle.grammar.specs.Attributes.{skip_attrs_in, skip_attrs}
+use Rattle.lexer.specs.Reads.{Comes}
+use Rattle.lexer.proofs.Laws.{g_done, g_stay, g_on, g_more, g_no_more}
+use borrow.Author.Rules.{rules}
+use Rattle.attributes.proofs.skip_attrs.Given as goal
+
+abbrev pub invariant-loop-left : goal.invariant-loop-left
+invariant-loop-left l = Comes (skip_attrs_in turns) (skip_attrs_in l.left) l.text l.initial.q l.q
+
+abbrev pub decreases-loop-left : goal.decreases-loop-left
+decreases-loop-left l = l.left

@@ -1,0 +1,23 @@
+use mathlib.Core.Path.{◌≡◌, sym, ◌∙◌}
+use mathlib.Core.Bool.{true}
+use Prim.Native.Nat.{◌+◌, ◌-◌, ◌≤◌}
+use native.Mathlib.Omega.{arith}
+use lib.ListN.{length, drop, take}
+use Rattle.grammar.specs.Lexer.{rank}
+use Rattle.lexer.specs.Table.{cut}
+use Rattle.lexer_names.specs.Names.{spelled_of}
+use Rattle.lexer_keywords.proofs.Ranks.{rank_hit, rank_miss, rank_out}
+use Rattle.lexer_spelling.proofs.Letters.{as_it_is}
+use borrow.Author.Rules.{rules}
+use Rattle.lexer_spelling.proofs.rank_quoted.Goals as goal
+
+pub returns-then-same_spelling : goal.returns-then-same_spelling
+returns-then-same_spelling c =
+    let z : c.loop-k.a + c.least-m.result - c.loop-k.a ≡ c.least-m.result = omega arith in sym (c.loop-k.invariant.1 ∙ rank_hit _ _ _ _ _ c.least-m.result c.loop-k-test.true c.loop-k.invariant.0 (λ h. c.least-m.ensures.2.0 (omega arith) ∙ c.wide-n.ensures) (λ h. c.least-m.ensures.2.1 (omega arith)) (rw (z, as_it_is (take c.least-m.result (drop c.loop-k.a c.args.bytes.now))) at (sym c.same_spelling.ensures ∙ c.if-same_spelling.true)))
+
+pub loop-k-preserved : goal.loop-k-preserved
+loop-k-preserved c =
+    let z : c.loop-k.a + c.least-m.result - c.loop-k.a ≡ c.least-m.result = omega arith in (omega arith, c.loop-k.invariant.1 ∙ rank_miss _ _ _ _ _ c.least-m.result c.loop-k-test.true c.loop-k.invariant.0 (λ h. c.least-m.ensures.2.0 (omega arith) ∙ c.wide-n.ensures) (λ h. c.least-m.ensures.2.1 (omega arith)) (rw (z, as_it_is (take c.least-m.result (drop c.loop-k.a c.args.bytes.now))) at (sym c.same_spelling.ensures ∙ c.if-same_spelling.false)))
+
+pub returns : goal.returns
+returns c = sym (c.loop-k.invariant.1 ∙ rank_out _ _ _ _ c.loop-k-test.false)

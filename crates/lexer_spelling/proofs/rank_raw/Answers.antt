@@ -1,0 +1,19 @@
+-- A quoted word by its spelling, any other as it stands.
+use mathlib.Core.Path.{sym, ◌∙◌}
+use Rattle.lexer_spelling.proofs.Letters.{spelled_quoted, spelled_plain}
+use borrow.Author.Rules.{rules}
+use Rattle.lexer_spelling.proofs.rank_raw.Goals as goal
+
+pub returns-then-is_quoted : goal.returns-then-is_quoted
+returns-then-is_quoted c =
+    c.rank_quoted.ensures ∙ rw (
+      spelled_quoted c.args.raw.now
+          (sym c.is_quoted.ensures ∙ c.if-is_quoted.true),
+      c.between-x.ensures,
+    )
+
+pub returns : goal.returns
+returns c =
+    c.rank_in.ensures ∙ rw
+    (spelled_plain c.args.raw.now
+    (sym c.is_quoted.ensures ∙ c.if-is_quoted.false))

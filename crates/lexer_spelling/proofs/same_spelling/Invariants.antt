@@ -1,0 +1,16 @@
+-- The invariant: the spellings are the same if what is left of them at i and j is; each turn takes a letter of both.
+use mathlib.Core.Path.{◌≡◌, refl, sym, ◌∙◌}
+use native.Mathlib.Omega.{arith}
+use Prim.Native.Nat.{◌-◌}
+use lib.ListN.{length, drop}
+use Rattle.grammar.specs.Lexer.{same_word}
+use Rattle.lexer_names.specs.Names.{spelled_of}
+use Rattle.lexer_spelling.proofs.Letters.{both_more, both_other, one_more, other_more, neither, letter_out}
+use borrow.Author.Rules.{rules}
+use Rattle.lexer_spelling.proofs.same_spelling.Given as goal
+
+abbrev pub invariant-loop-i : goal.invariant-loop-i
+invariant-loop-i l = same_word (spelled_of l.qa l.a) (spelled_of l.qb l.b) ≡ same_word (spelled_of l.qa (drop l.i l.a)) (spelled_of l.qb (drop l.j l.b))
+
+abbrev pub decreases-loop-i : goal.decreases-loop-i
+decreases-loop-i l = length l.a - l.i

@@ -1,0 +1,7 @@
+-- The digits folded, and their literal.
+use borrow.Author.Rules.{rules}
+use Rattle.number_hex.proofs.HexLaws.{bits_hex}
+use Rattle.number_hex.proofs.parse_hex_float.Goals as goal
+
+pub returns : goal.returns
+returns c = bits_hex c.hex_digits-x.ensures c.hex_literal-lit.ensures (c.bits_of.ensures _)

@@ -1,0 +1,45 @@
+-- Entries are joined, so where the last of them ends is the sum of their lengths.
+use Prim.Native.Nat.{◌+◌, ◌-◌, ◌*◌}
+use mathlib.Core.Path.{refl}
+use native.Mathlib.Omega.{arith}
+use Rattle.records.specs.Limits.{entry_words}
+use Rattle.piece_directory.specs.Olds.{olds_of}
+use Rattle.reread_kept.proofs.Front.{end_size, end_words, no_size, no_words}
+use borrow.Author.Rules.{rules}
+use Rattle.reread_kept.proofs.behind.Goals as goal
+
+pub returns-then-number-eq0 : goal.returns-then-number-eq0
+returns-then-number-eq0 c = (
+  refl,
+  rw c.if-number-eq0.true
+      (no_size
+      (olds_of c.args.entries c.args.directory.now)),
+  rw c.if-number-eq0.true
+      (no_words
+      (olds_of c.args.entries c.args.directory.now)),
+  c.counter_at-counter.ensures,
+)
+
+pub overflow_add-result : goal.overflow_add-result
+overflow_add-result c =
+    omega (
+      arith,
+      c.shared_slice_known-2-1.given
+          ((c.args.number - 1) * entry_words),
+    )
+
+pub overflow_add-result-2 : goal.overflow_add-result-2
+overflow_add-result-2 c =
+    omega (
+      arith,
+      c.shared_slice_known-2-1.given
+          ((c.args.number - 1) * entry_words + 1),
+    )
+
+pub returns : goal.returns
+returns c = (
+  refl,
+  end_size c.args.entries c.args.number c.args.directory.now (omega arith) c.requires.number_le_entries c.requires.joined,
+  end_words c.args.entries c.args.number c.args.directory.now (omega arith) c.requires.number_le_entries c.requires.joined,
+  c.counter_at-counter.ensures,
+)
