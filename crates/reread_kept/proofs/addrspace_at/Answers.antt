@@ -29,10 +29,10 @@ pub returns-then-is_word : goal.returns-then-is_word
 returns-then-is_word c =
     sym
     (spelling_end c.args.text.now c.args.a (omega arith) c.args.p (omega arith) c.loop-k.k (c.loop-k.invariant (omega arith) (omega arith)) c.loop-k-test.false ∙ ap not
-    (sym c.is_IsWord.ensures ∙ c.if-is_word.true))
+    (sym c.is_word.ensures ∙ c.if-is_word.true))
 
 pub returns : goal.returns
 returns c =
     sym
     (spelling_end c.args.text.now c.args.a (omega arith) c.args.p (omega arith) c.loop-k.k (c.loop-k.invariant (omega arith) (omega arith)) c.loop-k-test.false ∙ ap not
-    (sym c.is_IsWord.ensures ∙ c.if-is_word.false))
+    (sym c.is_word.ensures ∙ c.if-is_word.false))

@@ -10,7 +10,7 @@ use borrow.Author.Rules.{rules}
 use Rattle.reread_kept.proofs.addrspace_at.Given as goal
 
 abbrev pub invariant-loop-k : goal.invariant-loop-k
-invariant-loop-k l = (h : l.a ≤ length l.text) → (l : l.p ≤ l.a) → Spelling l.text l.a h l.p l l.k
+invariant-loop-k l = (h : l.a ≤ length l.text) → (q : l.p ≤ l.a) → Spelling l.text l.a h l.p q l.k
 
 abbrev pub decreases-loop-k : goal.decreases-loop-k
 decreases-loop-k l = 9 - l.k

@@ -30,13 +30,16 @@ move_words-requires c =
     let a : c.behind-here.result.word ≡ old_words (take c.args.from os) = c.behind-here.ensures.2 in
     let z : c.behind-end.result.word ≡ old_words os = c.behind-end.ensures.2 ∙ all_words_lem c.args.entries c.args.directory.now in
     let w : old_words os ≡ old_words (take c.args.from os) + old_words (drop c.args.from os) = words_split c.args.from os in
-    (omega (arith, c.requires.from_le_entries.1), omega (arith, c.requires.room_for.in_words_lem))
+    (omega (arith, c.requires.from_le_entries.1), omega (arith, c.requires.room_for.in_words))
 
 pub move_entries-requires : goal.move_entries-requires
 move_entries-requires c =
     let l = olds_length c.args.entries c.args.directory.now c.requires.joined.inside in
     let d = length-drop c.args.from (olds_of c.args.entries c.args.directory.now) in
-    ((c.requires.from_le_entries.0, c.requires.joined.inside, omega (arith, l, d, c.requires.room_for.entries)), (c.requires.from_le_entries.2, c.requires.room_for.small (omega (arith, l, d))))
+    record {
+      from_le_entries = (c.requires.from_le_entries.0, c.requires.joined.inside, omega (arith, l, d, c.requires.room_for.entries));
+      directory_bound = (c.requires.from_le_entries.2, c.requires.room_for.small (omega (arith, l, d)));
+    }
 
 pub overflow_add-result : goal.overflow_add-result
 overflow_add-result c =
@@ -44,7 +47,7 @@ overflow_add-result c =
     let a : c.behind-here.result.word ≡ old_words (take c.args.from os) = c.behind-here.ensures.2 in
     let z : c.behind-end.result.word ≡ old_words os = c.behind-end.ensures.2 ∙ all_words_lem c.args.entries c.args.directory.now in
     let w : old_words os ≡ old_words (take c.args.from os) + old_words (drop c.args.from os) = words_split c.args.from os in
-    omega (arith, c.requires.room_for.in_words_lem)
+    omega (arith, c.requires.room_for.in_words)
 
 pub returns : goal.returns
 returns c =

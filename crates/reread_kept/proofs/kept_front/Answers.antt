@@ -45,7 +45,7 @@ pub word_end-w-requires : goal.word_end-w-requires
 word_end-w-requires c =
     let len : length (take c.args.a c.args.text.now) ≡ c.args.a = front_length c.args.text.now c.args.a c.requires.a_in_bounds.0 in
     let in_dir : c.args.entries * entry_words ≤ length c.args.directory.now = c.requires.joined.inside in
-    (c.requires.a_in_bounds.0, omega (arith, c.later.ensures, c.loop-i.invariant.w-in, c.loop-i.invariant.below, c.if-a-pos.false))
+    (c.requires.a_in_bounds.0, omega (arith, c.later.ensures, c.loop-i.invariant.w_in, c.loop-i.invariant.below, c.if-a-pos.false))
 
 pub behind-requires-then-a-w : goal.behind-requires-then-a-w
 behind-requires-then-a-w c =

@@ -12,12 +12,12 @@ loop-i-init c = λ h. searching_first c.args.text.now c.args.a h c.args.from (om
 pub loop-i-preserved : goal.loop-i-preserved
 loop-i-preserved c =
     λ h. searching_more c.args.text.now c.args.a h c.args.from c.loop-i.i (c.loop-i.invariant h) c.loop-i-test.true
-    (sym c.is_IsWord.ensures ∙ c.if-is_word.true)
+    (sym c.is_word.ensures ∙ c.if-is_word.true)
 
 pub returns-else-is_word : goal.returns-else-is_word
 returns-else-is_word c =
     found c.args.text.now c.args.a (omega arith) c.args.from c.loop-i.i (c.loop-i.invariant (omega arith)) c.loop-i-test.true
-    (sym c.is_IsWord.ensures ∙ c.if-is_word.false)
+    (sym c.is_word.ensures ∙ c.if-is_word.false)
 
 pub returns : goal.returns
 returns c = found_end c.args.text.now c.args.a (omega arith) c.args.from c.loop-i.i (c.loop-i.invariant (omega arith)) c.loop-i-test.false
