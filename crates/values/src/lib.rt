@@ -11,7 +11,7 @@ use lexer::Parsed;
 use types::Listed;
 
 // Typed values behind commas, through the closing byte, behind the opening one (`parse_array_const`, `parse_struct_const`).
-#[cycle(aggregate_const_exprs_gep_indices_packed_const_pair_child_pair_list_parse_ce_bin_parse_ce_conv_parse_ce_gep_parse_typed_val_parse_value)]
+#[cycle(value_readers)]
 fn pair_list(
     classes: &[u8; 256],
     text: &[u8],
@@ -51,7 +51,7 @@ fn pair_list(
 }
 
 // `[..]` and `{..}`, behind the opening byte.
-#[cycle(aggregate_const_exprs_gep_indices_packed_const_pair_child_pair_list_parse_ce_bin_parse_ce_conv_parse_ce_gep_parse_typed_val_parse_value)]
+#[cycle(value_readers)]
 fn aggregate(
     classes: &[u8; 256],
     text: &[u8],
@@ -71,7 +71,7 @@ fn aggregate(
 }
 
 // `<{..}>`, behind the `<` that stands at `at`.
-#[cycle(aggregate_const_exprs_gep_indices_packed_const_pair_child_pair_list_parse_ce_bin_parse_ce_conv_parse_ce_gep_parse_typed_val_parse_value)]
+#[cycle(value_readers)]
 fn packed_const(
     classes: &[u8; 256],
     text: &[u8],
@@ -95,7 +95,7 @@ fn packed_const(
 }
 
 // The indices of a constant getelementptr, from before the comma through the `)`.
-#[cycle(aggregate_const_exprs_gep_indices_packed_const_pair_child_pair_list_parse_ce_bin_parse_ce_conv_parse_ce_gep_parse_typed_val_parse_value)]
+#[cycle(value_readers)]
 fn gep_indices(
     classes: &[u8; 256],
     text: &[u8],
@@ -127,7 +127,7 @@ fn gep_indices(
 }
 
 // A constant getelementptr, behind the word (`parse_ce_gep`).
-#[cycle(aggregate_const_exprs_gep_indices_packed_const_pair_child_pair_list_parse_ce_bin_parse_ce_conv_parse_ce_gep_parse_typed_val_parse_value)]
+#[cycle(value_readers)]
 fn parse_ce_gep(
     classes: &[u8; 256],
     text: &[u8],
@@ -151,7 +151,7 @@ fn parse_ce_gep(
 }
 
 // A conversion of a constant, behind the word (`parse_ce_conv_body`).
-#[cycle(aggregate_const_exprs_gep_indices_packed_const_pair_child_pair_list_parse_ce_bin_parse_ce_conv_parse_ce_gep_parse_typed_val_parse_value)]
+#[cycle(value_readers)]
 fn parse_ce_conv(
     classes: &[u8; 256],
     text: &[u8],
@@ -173,7 +173,7 @@ fn parse_ce_conv(
 }
 
 // An operation on two constants, behind the word.
-#[cycle(aggregate_const_exprs_gep_indices_packed_const_pair_child_pair_list_parse_ce_bin_parse_ce_conv_parse_ce_gep_parse_typed_val_parse_value)]
+#[cycle(value_readers)]
 fn parse_ce_bin(
     classes: &[u8; 256],
     text: &[u8],
@@ -196,7 +196,7 @@ fn parse_ce_bin(
 }
 
 // Constant expressions, or 6.
-#[cycle(aggregate_const_exprs_gep_indices_packed_const_pair_child_pair_list_parse_ce_bin_parse_ce_conv_parse_ce_gep_parse_typed_val_parse_value)]
+#[cycle(value_readers)]
 fn const_exprs(
     classes: &[u8; 256],
     text: &[u8],
@@ -225,7 +225,7 @@ fn const_exprs(
 }
 
 // A value (`parse_value`).
-#[cycle(aggregate_const_exprs_gep_indices_packed_const_pair_child_pair_list_parse_ce_bin_parse_ce_conv_parse_ce_gep_parse_typed_val_parse_value)]
+#[cycle(value_readers)]
 pub fn parse_value(
     classes: &[u8; 256],
     text: &[u8],
@@ -285,7 +285,7 @@ pub struct Pair {
 }
 
 // A type and a value as the next children of a list, which has n so far.
-#[cycle(aggregate_const_exprs_gep_indices_packed_const_pair_child_pair_list_parse_ce_bin_parse_ce_conv_parse_ce_gep_parse_typed_val_parse_value)]
+#[cycle(value_readers)]
 pub fn pair_child(
     classes: &[u8; 256],
     text: &[u8],
@@ -312,7 +312,7 @@ pub fn pair_child(
 }
 
 // A type and a value (`parse_typed_val`).
-#[cycle(aggregate_const_exprs_gep_indices_packed_const_pair_child_pair_list_parse_ce_bin_parse_ce_conv_parse_ce_gep_parse_typed_val_parse_value)]
+#[cycle(value_readers)]
 pub fn parse_typed_val(
     classes: &[u8; 256],
     text: &[u8],

@@ -1,0 +1,17 @@
+-- The invariant: all the parameters lead to those with `left` turns to go, behind the n counted so far and with two words paid for.
+use borrow.Author.Rules.{rules}
+use mathlib.Core.Path.{◌≡◌, refl, ◌∙◌}
+use mathlib.Core.List.{[]}
+use native.Mathlib.Omega.{arith}
+use lib.ListN.{length}
+use Rattle.grammar.specs.Body.{parse_params, parse_param_list}
+use Rattle.lexer.specs.Reads.{Leads, reach}
+use Rattle.lexer.proofs.Laws.{done, val, byte_yes, byte_no, call}
+use Rattle.piece_head.proofs.HeadLaws.{paying, stay_paid, go_on_paid, params_dots, params_out, params_more, params_end}
+use Rattle.piece_head.proofs.parse_param_list.Given as goal
+
+abbrev pub invariant-loop-left : goal.invariant-loop-left
+invariant-loop-left l = Leads (parse_params 65536 0 1 []) 2 [] (paying 2 (reach (parse_params l.left l.c l.n) l.text l.initial.q)) l.text l.initial.q l.initial.q l.initial.words l.q l.words × (length l.words ≡ length l.initial.words)
+
+abbrev pub decreases-loop-left : goal.decreases-loop-left
+decreases-loop-left l = l.left

@@ -1,0 +1,7 @@
+-- What reaches past the text is cut off.
+use Rattle.record_blocks.proofs.Cuts.{piece_there}
+use borrow.Author.Rules.{rules}
+use Rattle.record_blocks.proofs.piece_text.Goals as goal
+
+pub returns : goal.returns
+returns c = piece_there c.args.text.now c.args.x c.least-start.result c.least.result c.least-start.ensures c.least.ensures

@@ -1,0 +1,13 @@
+-- The invariant: all the flags lead to those with `left` turns to go, the flag so far kept; a flag takes one turn.
+use Rattle.records.specs.Limits.{turns}
+use Rattle.grammar.specs.Values.{parse_gep_flags}
+use Rattle.lexer.specs.Reads.{Comes}
+use Rattle.lexer.proofs.Laws.{g_done, g_stay, g_on, g_more, g_no_more}
+use borrow.Author.Rules.{rules}
+use Rattle.value_leaves.proofs.parse_gep_flags.Given as goal
+
+abbrev pub invariant-loop-left : goal.invariant-loop-left
+invariant-loop-left l = Comes (parse_gep_flags turns 0) (parse_gep_flags l.left l.v) l.text l.initial.q l.q
+
+abbrev pub decreases-loop-left : goal.decreases-loop-left
+decreases-loop-left l = l.left
