@@ -22,7 +22,7 @@ use Rattle.channel_spec.specs.declared.Fired.TheVariants as fired
 use Rattle.channel_spec.specs.declared.Told.{Told}
 use Rattle.channel_spec.specs.declared.Told.TheVariants.{Answer, Refused}
 use Rattle.channel_spec.specs.Table.{classes, channels, is_bad, first_that, overlap, first_overlap, covers, covered, gap_from, first_gap, or_else, asked_place, judged, permits}
-use Rattle.channel_spec.specs.Answers.{answerNo, answerYes, answerUndecided, answerNone, answer_of, ruling}
+use Rattle.channel_spec.specs.Answers.{answer_no, answer_yes, answer_undecided, answer_none, answer_of, ruling}
 use Rattle.channel_table.specs.declared.windows.Window.{Window}
 use Rattle.channel_table.specs.declared.Question.{Question}
 use Rattle.channel_table.specs.declared.Question.TheVariants.{Bad, Shared, Later, Covering, Nothing}
@@ -102,8 +102,8 @@ fewer_answering n k s c l = go s.fired
   where
     go : (h : Fired) → Fewer n k (answering_to h s)
     go (fired.Channel x) = fewer_pass n k s Covering (no_rule s.count) c l
-    go fired.Undecided = fewer_done n k s (Answer answerUndecided) c (omega arith)
-    go fired.Nothing = fewer_done n k s (Answer answerNone) c (omega arith)
+    go fired.Undecided = fewer_done n k s (Answer answer_undecided) c (omega arith)
+    go fired.Nothing = fewer_done n k s (Answer answer_none) c (omega arith)
 
 fewer_behind : (n k : ℕ) (s : Search) → s.count ≡ n → 1 < k → Fewer n k (behind_windows s)
 unfolding behind_windows later rank
@@ -380,8 +380,8 @@ module _ (rs : List Rule) (asked : ℕ) (f : Fired) where
     unfolding turned turned_at moved finds answers answered no_rule covers_call answer_of
     turn_covering p x a q c n b o g =
         rw (ap (λ (z : Question). question_in z rs) q ∙ still_covering rs)
-        (over (moved p 0 Covering F) (Answer (pick (ltb 0 F.rule.allowed) answerYes answerNo)) a.count_is
-        (ap (λ (t : Bool). Answer (pick t answerYes answerNo)) (says found) ∙ answer_is ∙ ruled_answer a.low b o g))
+        (over (moved p 0 Covering F) (Answer (pick (ltb 0 F.rule.allowed) answer_yes answer_no)) a.count_is
+        (ap (λ (t : Bool). Answer (pick t answer_yes answer_no)) (says found) ∙ answer_is ∙ ruled_answer a.low b o g))
       where
         F : Found
         F = found_in p 0 rs
@@ -395,7 +395,7 @@ module _ (rs : List Rule) (asked : ℕ) (f : Fired) where
         says (nowhere e k) = ap (λ (z : Found). ltb 0 z.rule.allowed) (e ∙ n) ∙ sym (permits_none asked x rs k)
         says (lowest i h e r t k) = ap (λ (z : Rule). ltb 0 z.allowed) r ∙ sym (permits_some asked x rs i h t k)
 
-        answer_is : Answer (pick (permits asked x rs) answerYes answerNo) ≡ Answer (answer_of asked rs f)
+        answer_is : Answer (pick (permits asked x rs) answer_yes answer_no) ≡ Answer (answer_of asked rs f)
         answer_is = ap (λ (z : Fired). Answer (answer_of asked rs z)) (sym c)
 
     -- All windows are behind.
@@ -411,8 +411,8 @@ module _ (rs : List Rule) (asked : ℕ) (f : Fired) where
         go (fired.Channel x) e =
             next_pass s Covering (no_rule s.count) a
             (at_covering x (about_pass s Covering (no_rule s.count) a) (asks_pass s Covering (no_rule s.count)) e (found_pass s Covering (no_rule s.count) ∙ ap no_rule a.count_is) b o g)
-        go fired.Undecided e = over s (Answer answerUndecided) a.count_is (ap (λ (h : Fired). Answer (answer_of asked rs h)) (sym e) ∙ ruled_answer a.low b o g)
-        go fired.Nothing e = over s (Answer answerNone) a.count_is (ap (λ (h : Fired). Answer (answer_of asked rs h)) (sym e) ∙ ruled_answer a.low b o g)
+        go fired.Undecided e = over s (Answer answer_undecided) a.count_is (ap (λ (h : Fired). Answer (answer_of asked rs h)) (sym e) ∙ ruled_answer a.low b o g)
+        go fired.Nothing e = over s (Answer answer_none) a.count_is (ap (λ (h : Fired). Answer (answer_of asked rs h)) (sym e) ∙ ruled_answer a.low b o g)
 
     behind_all : (s : Search) → About s → first_that is_bad 0 rs ≡ none → Pairs rs classes 0 s.found → Gaps rs classes 0 s.gap → Good (behind_windows s)
     unfolding behind_windows later moved no_rule
@@ -554,7 +554,7 @@ module _ (rs : List Rule) (asked : ℕ) (f : Fired) where
         (rw (ap (λ (z : Question). question_in z rs) q ∙ still_later rs) (fewer_done (length rs) 1 (moved p 0 Later (found_in p 0 rs)) (Refused q_overlap (found_in p 0 rs).number) a.count_is (omega arith)))
     turn_fewer p (at_covering x a q c n b o g) =
         subst (λ (i : ℕ). Fewer (length rs) i (turned (whole_pass p rs))) (ap rank (sym q))
-        (rw (ap (λ (z : Question). question_in z rs) q ∙ still_covering rs) (fewer_done (length rs) 1 (moved p 0 Covering (found_in p 0 rs)) (Answer (pick (ltb 0 (found_in p 0 rs).rule.allowed) answerYes answerNo)) a.count_is (omega arith)))
+        (rw (ap (λ (z : Question). question_in z rs) q ∙ still_covering rs) (fewer_done (length rs) 1 (moved p 0 Covering (found_in p 0 rs)) (Answer (pick (ltb 0 (found_in p 0 rs).rule.allowed) answer_yes answer_no)) a.count_is (omega arith)))
 
   -- the rule that is wanted, and those behind it
   drop_rule : (qs : List Rule) (n : ℕ) → n < length qs → drop n qs ≡ rule qs n ∷ drop (suc n) qs

@@ -10,7 +10,7 @@ use Rattle.channel_spec.specs.declared.Fired.TheVariants as fired
 use Rattle.channel_spec.specs.declared.Told.{Told}
 use Rattle.channel_spec.specs.declared.Told.TheVariants.{Answer, Refused}
 use Rattle.channel_spec.specs.Table.{classes, channels, is_bad, overlap, covers}
-use Rattle.channel_spec.specs.Answers.{answerNo, answerYes, answerUndecided, answerNone}
+use Rattle.channel_spec.specs.Answers.{answer_no, answer_yes, answer_undecided, answer_none}
 use Rattle.channel_table.specs.declared.windows.Window.{Window}
 use Rattle.channel_table.specs.declared.Question.{Question}
 use Rattle.channel_table.specs.declared.Question.TheVariants.{Bad, Shared, Later, Covering, Nothing}
@@ -85,8 +85,8 @@ gap_after g w =
 
 unfoldable pub answering_to : Fired → Search → Search
 answering_to (fired.Channel x) s = pass s Covering (no_rule s.count)
-answering_to fired.Undecided s = done s (Answer answerUndecided)
-answering_to fired.Nothing s = done s (Answer answerNone)
+answering_to fired.Undecided s = done s (Answer answer_undecided)
+answering_to fired.Nothing s = done s (Answer answer_none)
 
 unfoldable pub answering : Search → Search
 answering s = answering_to s.fired s
@@ -109,7 +109,7 @@ behind_window s w =
     ]
 
 unfoldable pub answered : Search → Search
-answered s = done s (Answer (pick (ltb 0 s.found.rule.allowed) answerYes answerNo))
+answered s = done s (Answer (pick (ltb 0 s.found.rule.allowed) answer_yes answer_no))
 
 unfoldable pub turned_at : Question → Search → Search
 turned_at Bad s = elim (ltb s.found.number s.count) [ true ↦ done s (Refused q_rule s.found.number) | false ↦ pass s (Shared (window_at 0 0)) s.found ]

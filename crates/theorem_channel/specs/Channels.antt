@@ -24,7 +24,7 @@ use Rattle.channel_spec.specs.declared.Told.TheVariants.{Answer}
 use Rattle.channel_spec.specs.declared.Fired.{Fired}
 use Rattle.channel_spec.specs.declared.Fired.TheVariants.{Channel, Undecided, Nothing}
 use Rattle.channel_spec.specs.Fires.{constant, callee_place, from, calls_fire, constant_of, fire_of, fires_of, block_fires, function_fires, child_at, calls_fire_at, constant_at, fire_in, fire_here, fires_from, fires_in, blocks_in, word_fires, nth}
-use Rattle.channel_spec.specs.Answers.{answerNo, answerYes, answerUndecided, answerNone, answer_of, ruling, channelRule}
+use Rattle.channel_spec.specs.Answers.{answer_no, answer_yes, answer_undecided, answer_none, answer_of, ruling, channel_rule}
 use Rattle.theorem_channel.specs.Table.{Stands, OneRule, KeepsClass, IsChannel, stands, undecided_exactly, none_exactly, answer_of_rule, answers_apart}
 use Rattle.theorem_channel.specs.Calls.{SaysChannel, blocks_from_lem, channel_exactly, constant_undecided}
 
@@ -61,10 +61,10 @@ first_arguments text trees dir = block_arguments text (behind_first trees) (drop
 -- class covering the channel".
 abbrev pub Answers : (asked m n : ℕ) (rs : List Rule) (text ws ds : List ℕ) → List Trees → Type 0
 Answers asked m n rs text ws ds args =
-    ((channelRule asked m n rs text ws ds ≡ Answer answerNone) ↔ (length args ≤ m))
-    × ((m < length args → (channelRule asked m n rs text ws ds ≡ Answer answerUndecided) ↔ ((x : ℕ) → SaysChannel x (get_or args m empty) → ⊥))
+    ((channel_rule asked m n rs text ws ds ≡ Answer answer_none) ↔ (length args ≤ m))
+    × ((m < length args → (channel_rule asked m n rs text ws ds ≡ Answer answer_undecided) ↔ ((x : ℕ) → SaysChannel x (get_or args m empty) → ⊥))
     × ((x : ℕ) → m < length args → SaysChannel x (get_or args m empty)
-    → OneRule asked x rs (λ r. channelRule asked m n rs text ws ds ≡ Answer (pick (ltb 0 r.allowed) answerYes answerNo))))
+    → OneRule asked x rs (λ r. channel_rule asked m n rs text ws ds ≡ Answer (pick (ltb 0 r.allowed) answer_yes answer_no))))
 
 -- Over the words of a head and of blocks, with others behind.
 over_trees : (n : ℕ) (text ws ds r : List ℕ) (t : Trees) (m : ℕ) → Formed text_limit t → sorts t ≡ head ∷ repeat m (block ∷ []) → n ≡ m + 2 → length (tree_words t) < half_limit → ws ≡ tree_words t ++ r
@@ -90,8 +90,8 @@ fires_of_trees n text ws ds F = over_trees n text ws ds (replicate (length ws - 
 -- "For one class and the n-th call to `@fire` in an accepted function": the answer is for call number m of the trees of the function.
 pub accepted_fires : (W D n : ℕ) (ws ds text : List ℕ) → reading_of W D text ≡ left (count n) ws ds
     → (T : Function n ws ds) × ((word_fires n text ws ds ≡ function_fires text T.trees ds)
-    × ((asked m : ℕ) (rs : List Rule) → channelRule asked m n rs text ws ds ≡ ruling asked rs (nth m (function_fires text T.trees ds))))
-unfolding channelRule
+    × ((asked m : ℕ) (rs : List Rule) → channel_rule asked m n rs text ws ds ≡ ruling asked rs (nth m (function_fires text T.trees ds))))
+unfolding channel_rule
 accepted_fires W D n ws ds text h =
     let F : Function n ws ds = accepted_function W D n ws ds text h in
     let e : word_fires n text ws ds ≡ function_fires text F.trees ds = fires_of_trees n text ws ds F in
@@ -179,23 +179,23 @@ told : (a b : ℕ) → Answer a ≡ Answer b → a ≡ b
 told a b h = cc
 
 -- Of a table that stands, for any words: what is told is the answer, and it is "none past the last" exactly.
-pub answered : (asked m n : ℕ) (rs : List Rule) (text ws ds : List ℕ) → asked ≤ class_limit → Stands rs → channelRule asked m n rs text ws ds ≡ Answer (answer_of asked rs (nth m (word_fires n text ws ds)))
-unfolding channelRule ruling
+pub answered : (asked m n : ℕ) (rs : List Rule) (text ws ds : List ℕ) → asked ≤ class_limit → Stands rs → channel_rule asked m n rs text ws ds ≡ Answer (answer_of asked rs (nth m (word_fires n text ws ds)))
+unfolding channel_rule ruling
 answered asked m n rs text ws ds l s = stands asked rs (Answer (answer_of asked rs (nth m (word_fires n text ws ds)))) l s
 
 pub none_past_last : (asked m n : ℕ) (rs : List Rule) (text ws ds : List ℕ) → asked ≤ class_limit → Stands rs
-    → (channelRule asked m n rs text ws ds ≡ Answer answerNone) ↔ (length (word_fires n text ws ds) ≤ m)
+    → (channel_rule asked m n rs text ws ds ≡ Answer answer_none) ↔ (length (word_fires n text ws ds) ≤ m)
 none_past_last asked m n rs text ws ds l s =
     let f : Fired = nth m (word_fires n text ws ds) in
-    let e : channelRule asked m n rs text ws ds ≡ Answer (answer_of asked rs f) = answered asked m n rs text ws ds l s in
+    let e : channel_rule asked m n rs text ws ds ≡ Answer (answer_of asked rs f) = answered asked m n rs text ws ds l s in
     let p : (f ≡ Nothing) ↔ (length (word_fires n text ws ds) ≤ m) = nothing_past m (word_fires n text ws ds) (say_all n text ws ds) in
-    let q : (answer_of asked rs f ≡ answerNone) ↔ (f ≡ Nothing) = none_exactly asked rs f in
-    ((λ h. p.0 (q.0 (told (answer_of asked rs f) answerNone (sym e ∙ h)))), λ h. e ∙ ap Answer (q.1 (p.1 h)))
+    let q : (answer_of asked rs f ≡ answer_none) ↔ (f ≡ Nothing) = none_exactly asked rs f in
+    ((λ h. p.0 (q.0 (told (answer_of asked rs f) answer_none (sym e ∙ h)))), λ h. e ∙ ap Answer (q.1 (p.1 h)))
 
 -- "between two tables not refused, rules of one class never alter answers for another": whatever the words, two tables that answer for a class and
 -- have its rules in common answer alike, whatever the rules of the other classes.
-pub rules_apart : (rs rs' : List Rule) (c m n : ℕ) (text ws ds : List ℕ) (a b : ℕ) → KeepsClass c rs rs' → channelRule c m n rs text ws ds ≡ Answer a → channelRule c m n rs' text ws ds ≡ Answer b → a ≡ b
-unfolding channelRule
+pub rules_apart : (rs rs' : List Rule) (c m n : ℕ) (text ws ds : List ℕ) (a b : ℕ) → KeepsClass c rs rs' → channel_rule c m n rs text ws ds ≡ Answer a → channel_rule c m n rs' text ws ds ≡ Answer b → a ≡ b
+unfolding channel_rule
 rules_apart rs rs' c m n text ws ds a b k g h =
     answers_apart rs rs' c (nth m (word_fires n text ws ds)) a b (nth_channel m (word_fires n text ws ds) (say_all n text ws ds)) k g h
 
@@ -244,22 +244,22 @@ nth_says zero (t ∷ ts) l = refl
 nth_says (suc m) (t ∷ ts) l = nth_says m ts (omega arith)
 
 answers_of_trees : (n : ℕ) (text ws ds : List ℕ) (F : Function n ws ds) (asked m : ℕ) (rs : List Rule) → asked ≤ class_limit → Stands rs → Answers asked m n rs text ws ds (first_arguments text F.trees ds)
-unfolding channelRule
+unfolding channel_rule
 answers_of_trees n text ws ds F asked m rs l s =
     let ts : List Trees = first_arguments text F.trees ds in
     let f : Fired = nth m (word_fires n text ws ds) in
     let e : word_fires n text ws ds ≡ map constant_of ts = fires_of_trees n text ws ds F ∙ sym (arguments_say text F.trees ds) in
     let long : length (word_fires n text ws ds) ≡ length ts = ap length e ∙ length-map ts constant_of in
-    let a : channelRule asked m n rs text ws ds ≡ Answer (answer_of asked rs f) = answered asked m n rs text ws ds l s in
+    let a : channel_rule asked m n rs text ws ds ≡ Answer (answer_of asked rs f) = answered asked m n rs text ws ds l s in
     let one : m < length ts → f ≡ constant_of (get_or ts m empty) = λ u. ap (nth m) e ∙ nth_says m ts u in
-    let past : (channelRule asked m n rs text ws ds ≡ Answer answerNone) ↔ (length (word_fires n text ws ds) ≤ m) = none_past_last asked m n rs text ws ds l s in
-    let unsaid : (answer_of asked rs f ≡ answerUndecided) ↔ (f ≡ Undecided) = undecided_exactly asked rs f in
+    let past : (channel_rule asked m n rs text ws ds ≡ Answer answer_none) ↔ (length (word_fires n text ws ds) ≤ m) = none_past_last asked m n rs text ws ds l s in
+    let unsaid : (answer_of asked rs f ≡ answer_undecided) ↔ (f ≡ Undecided) = undecided_exactly asked rs f in
     let other : (constant_of (get_or ts m empty) ≡ Undecided) ↔ ((x : ℕ) → SaysChannel x (get_or ts m empty) → ⊥) = constant_undecided (get_or ts m empty) in (
       ((λ q. omega (arith, past.0 q)), λ u. past.1 (omega arith)),
       (
-        (λ u. ((λ q. other.0 (sym (one u) ∙ unsaid.0 (told (answer_of asked rs f) answerUndecided (sym a ∙ q)))), λ q. a ∙ ap Answer (unsaid.1 (one u ∙ other.1 q)))),
+        (λ u. ((λ q. other.0 (sym (one u) ∙ unsaid.0 (told (answer_of asked rs f) answer_undecided (sym a ∙ q)))), λ q. a ∙ ap Answer (unsaid.1 (one u ∙ other.1 q)))),
         λ x u c.
-            let r : OneRule asked x rs (λ v. ruling asked rs (Channel x) ≡ Answer (pick (ltb 0 v.allowed) answerYes answerNo)) =
+            let r : OneRule asked x rs (λ v. ruling asked rs (Channel x) ≡ Answer (pick (ltb 0 v.allowed) answer_yes answer_no)) =
             answer_of_rule rs s asked x l (below (get_or ts m empty) x c) in
             (r.0, (r.1.0, (r.1.1.0, (r.1.1.1.0, ap (ruling asked rs) (one u ∙ (channel_exactly (get_or ts m empty) x).1 c) ∙ r.1.1.1.1)))),
       ),

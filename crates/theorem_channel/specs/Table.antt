@@ -14,7 +14,7 @@ use Rattle.channel_spec.specs.declared.Told.TheVariants.{Answer, Refused}
 use Rattle.channel_spec.specs.declared.Fired.{Fired}
 use Rattle.channel_spec.specs.declared.Fired.TheVariants.{Channel, Undecided, Nothing}
 use Rattle.channel_spec.specs.Table.{classes, channels, is_bad, first_that, overlap, first_overlap, covers, covered, gap_from, first_gap, or_else, asked_place, judged, permits}
-use Rattle.channel_spec.specs.Answers.{answerNo, answerYes, answerUndecided, answerNone, answer_of, ruling}
+use Rattle.channel_spec.specs.Answers.{answer_no, answer_yes, answer_undecided, answer_none, answer_of, ruling}
 
 -- rule number i of a table; past its end, one that says nothing of use
 abbrev pub rule_at : List Rule → ℕ → Rule
@@ -473,7 +473,7 @@ same_permits rs rs' s s' c x l m k =
 
 pub classes_apart : (rs rs' : List Rule) → Stands rs → Stands rs' → (c : ℕ) → c ≤ class_limit → KeepsClass c rs rs' → (f : Fired) → IsChannel f → answer_of c rs f ≡ answer_of c rs' f
 unfolding answer_of
-classes_apart rs rs' s s' c l k (Channel x) m = ap (λ (b : Bool). pick b answerYes answerNo) (same_permits rs rs' s s' c x l m k)
+classes_apart rs rs' s s' c l k (Channel x) m = ap (λ (b : Bool). pick b answer_yes answer_no) (same_permits rs rs' s s' c x l m k)
 classes_apart rs rs' s s' c l k Undecided m = refl
 classes_apart rs rs' s s' c l k Nothing m = refl
 
@@ -491,35 +491,35 @@ answers_apart rs rs' c f a b m k g h =
     sym s.1.1 ∙ classes_apart rs rs' s.1.0 s'.1.0 c s.0 k f m ∙ s'.1.1
 
 -- "the part answers yes, no, undecided, or none past the last": which it is, what the call says tells.
-pub undecided_exactly : (c : ℕ) (rs : List Rule) (f : Fired) → (answer_of c rs f ≡ answerUndecided) ↔ (f ≡ Undecided)
+pub undecided_exactly : (c : ℕ) (rs : List Rule) (f : Fired) → (answer_of c rs f ≡ answer_undecided) ↔ (f ≡ Undecided)
 unfolding answer_of
 undecided_exactly c rs f = (there f, λ e. ap (answer_of c rs) e)
   where
-    low : (b : Bool) → pick b answerYes answerNo ≡ answerUndecided → ⊥
+    low : (b : Bool) → pick b answer_yes answer_no ≡ answer_undecided → ⊥
     low true e = omega arith
     low false e = omega arith
 
-    there : (f : Fired) → answer_of c rs f ≡ answerUndecided → f ≡ Undecided
+    there : (f : Fired) → answer_of c rs f ≡ answer_undecided → f ≡ Undecided
     there (Channel x) e = absurd (low (permits c x rs) e)
     there Undecided e = refl
     there Nothing e = absurd (omega arith)
 
-pub none_exactly : (c : ℕ) (rs : List Rule) (f : Fired) → (answer_of c rs f ≡ answerNone) ↔ (f ≡ Nothing)
+pub none_exactly : (c : ℕ) (rs : List Rule) (f : Fired) → (answer_of c rs f ≡ answer_none) ↔ (f ≡ Nothing)
 unfolding answer_of
 none_exactly c rs f = (there f, λ e. ap (answer_of c rs) e)
   where
-    low : (b : Bool) → pick b answerYes answerNo ≡ answerNone → ⊥
+    low : (b : Bool) → pick b answer_yes answer_no ≡ answer_none → ⊥
     low true e = omega arith
     low false e = omega arith
 
-    there : (f : Fired) → answer_of c rs f ≡ answerNone → f ≡ Nothing
+    there : (f : Fired) → answer_of c rs f ≡ answer_none → f ≡ Nothing
     there (Channel x) e = absurd (low (permits c x rs) e)
     there Undecided e = absurd (omega arith)
     there Nothing e = refl
 
 -- Yes or no is for a channel, and it is what its one rule says: no where its `allowed` is 0, else yes.
-pub answer_of_rule : (rs : List Rule) → Stands rs → (c x : ℕ) → c ≤ class_limit → x ≤ channel_limit → OneRule c x rs (λ r. ruling c rs (Channel x) ≡ Answer (pick (ltb 0 r.allowed) answerYes answerNo))
+pub answer_of_rule : (rs : List Rule) → Stands rs → (c x : ℕ) → c ≤ class_limit → x ≤ channel_limit → OneRule c x rs (λ r. ruling c rs (Channel x) ≡ Answer (pick (ltb 0 r.allowed) answer_yes answer_no))
 unfolding ruling answer_of
 answer_of_rule rs s c x l m =
     let n : OneRule c x rs (λ r. permits c x rs ≡ ltb 0 r.allowed) = one_rule rs s c x l m in
-    (n.0, (n.1.0, (n.1.1.0, (n.1.1.1.0, stands c rs (Answer (answer_of c rs (Channel x))) l s ∙ ap (λ (b : Bool). Answer (pick b answerYes answerNo)) n.1.1.1.1))))
+    (n.0, (n.1.0, (n.1.1.0, (n.1.1.1.0, stands c rs (Answer (answer_of c rs (Channel x))) l s ∙ ap (λ (b : Bool). Answer (pick b answer_yes answer_no)) n.1.1.1.1))))

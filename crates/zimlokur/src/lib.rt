@@ -6,7 +6,7 @@ ghost use Rattle.grammar.specs.Function.{reading_of, rereading_of};
 ghost use Rattle.text_lines.specs.Place.{position_of};
 ghost use Rattle.trees.specs.Steps.{child_of, next_of, part_of};
 ghost use Rattle.map_spec.specs.Buffer.{block_map};
-ghost use Rattle.channel_spec.specs.Answers.{channelRule};
+ghost use Rattle.channel_spec.specs.Answers.{channel_rule};
 ghost use Rattle.zimlokur.specs.Report.{Reports, ReportsAgain, ReportsStep, ReportsPart, ReportsMap, ReportsChannel};
 
 use channel_spec::{Rule, Told};
@@ -195,7 +195,7 @@ pub extern "C" fn zimlokur_channel(
     place: &mut u64,
     answer: &mut u64,
 ) -> u64
-    ensures { ReportsChannel (channelRule account_class n entries rules.now text.now words.now directory.now) result place.new answer.new }
+    ensures { ReportsChannel (channel_rule account_class n entries rules.now text.now words.now directory.now) result place.new answer.new }
 {
     let fired = channel_calls::fired(text, words, directory, entries, n);
     let told = channel_table::judged(rules, account_class, fired);

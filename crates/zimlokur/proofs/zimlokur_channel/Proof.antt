@@ -1,4 +1,4 @@
--- `zimlokur_channel` meets its contract: a walk of its MIR, by hand. It is three calls, one after another: what call n says, what the table says to it, and what is told of that in numbers; `channelRule` is the first two of these.
+-- `zimlokur_channel` meets its contract: a walk of its MIR, by hand. It is three calls, one after another: what call n says, what the table says to it, and what is told of that in numbers; `channel_rule` is the first two of these.
 -- All that the proof knows of `fired`, of `judged` and of `report` is that each meets its contract. Of what is lent by `&` a copy is passed on; `place` and `answer` go to `report` for good.
 -- Assumes nothing.
 use mathlib.Core.Path.{◌≡◌, refl, ap, subst, ◌∙◌}
@@ -44,7 +44,7 @@ use Rattle.channel_spec.specs.declared.Rule.{Rule}
 use Rattle.channel_spec.specs.declared.Fired.{Fired}
 use Rattle.channel_spec.specs.declared.Told.{Told}
 use Rattle.channel_spec.specs.Fires.{word_fires, nth}
-use Rattle.channel_spec.specs.Answers.{ruling, channelRule}
+use Rattle.channel_spec.specs.Answers.{ruling, channel_rule}
 use Rattle.channel_spec.specs.contracts.Rule as R
 use Rattle.channel_spec.specs.contracts.Fired as F
 use Rattle.channel_spec.proofs.Fired.TheLaws as F'
@@ -97,8 +97,8 @@ abbrev told_val : Told → Val
 told_val = EL.val D.the_type D'.the_laws
 
 -- what a table says of call number n is what it says of what that call says
-opens : (c n e : ℕ) (rs : List Rule) (text words dir : List ℕ) → ruling c rs (nth n (word_fires e text words dir)) ≡ channelRule c n e rs text words dir
-unfolding channelRule
+opens : (c n e : ℕ) (rs : List Rule) (text words dir : List ℕ) → ruling c rs (nth n (word_fires e text words dir)) ≡ channel_rule c n e rs text words dir
+unfolding channel_rule
 opens c n e rs text words dir = refl
 
 abbrev stayed : Stays (channel.ended).signature.params (channel.ended).kept
@@ -247,7 +247,7 @@ module _ {M : Type 1} {𝓤 : Ura M} (𝓛 : Logic 𝓤) (at_mem : Memory → SP
       nothing ! $ move ! (7 ∷ 0 ∷ []) $ join ! $ move ! (6 ∷ 0 ∷ []) $ join ! $
       use2 𝓛 (raw ((Report 𝓛 at_mem run).pre (to_report d))) (qed 𝓛 (Tokens₃ ∷ ‵ (owns (D.the_row ∷ MutRef (named 0) κ₄ u64 ∷ MutRef (named 1) κ₅ u64 ∷ []) (d, (place, (answer, tt))) (told_val d ∷ [], (v₄ ∷ [], (v₅ ∷ [], tt)))) ∷ []) ∵ join ! $ frame ! $ done !) $ done !
 
-  exits : (r w₄ w₅ : ℕ) (u : Val) → ReportsChannel (channelRule c n e rs.now text.now words.now dir.now) r w₄ w₅
+  exits : (r w₄ w₅ : ℕ) (u : Val) → ReportsChannel (channel_rule c n e rs.now text.now words.now dir.now) r w₄ w₅
       → ent 𝓤 (⋆ 𝓛 (‵ (u64.own_val r (u ∷ [])) ∷ Tokens₃ ∷ ‵ (fres place.name (gnum w₄)) ∷ ‵ (fres answer.name (gnum w₅)) ∷ Tokens₂ ∷ Tokens₁ ∷ ‵ Dir ∷ ‵ Words ∷ ‵ Text ∷ ‵ Rules ∷ [])) (Post u)
   exits r w₄ w₅ u told =
       qed 𝓛 (‵ (u64.own_val r (u ∷ [])) ∷ Tokens₃ ∷ ‵ (fres place.name (gnum w₄)) ∷ ‵ (fres answer.name (gnum w₅)) ∷ Tokens₂ ∷ Tokens₁ ∷ ‵ Dir ∷ ‵ Words ∷ ‵ Text ∷ ‵ Rules ∷ []) ∵

@@ -1,0 +1,21 @@
+use Prim.Native.Nat.{◌-◌, ◌+◌}
+use native.Mathlib.Omega.{arith}
+use Rattle.channel_table.proofs.Bits.{clear_here, clear_next, clear_none}
+use mathlib.Core.Path.{refl, sym, ◌∙◌, ◌≡◌}
+use Rattle.channel_table.specs.Windows.{first_clear, window_size}
+use borrow.Author.Rules.{rules}
+use Rattle.channel_table.proofs.windows.first_clear.Goals as goal
+
+pub returns-then-marks-k-eq0 : goal.returns-then-marks-k-eq0
+returns-then-marks-k-eq0 c =
+    let p = c.before.before in
+    sym (p.loop.invariant ∙ clear_here _ p.loop.k _ (omega (arith, c.loop-k-test.true)) c.if-marks-k-eq0.true)
+
+pub loop-k-preserved : goal.loop-k-preserved
+loop-k-preserved c =
+    let p = c.before.before in
+    let z : window_size - (p.loop.k + 1) ≡ window_size - p.loop.k - 1 = omega arith in
+    p.loop.invariant ∙ clear_next _ p.loop.k _ (omega (arith, c.loop-k-test.true)) c.if-marks-k-eq0.false ∙ rw z
+
+pub returns : goal.returns
+returns c = sym (c.loop-k.invariant ∙ clear_none _ c.loop-k.k _ (omega (arith, c.loop-k-test.false)))

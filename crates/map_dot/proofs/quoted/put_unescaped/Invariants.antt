@@ -1,0 +1,20 @@
+-- The letters still to be stored, from where the code has come to, give what all give from the start; each turn takes a letter.
+use mathlib.Core.Path.{◌≡◌, refl, ◌∙◌}
+use mathlib.Core.List.{[]}
+use Prim.Native.Nat.{◌-◌, ◌≤◌}
+use native.Mathlib.Omega.{arith}
+use lib.ListN.{length, drop, drop_of_length-le}
+use borrow.Author.Tests.{not-true, not-false}
+use Rattle.grammar.specs.Lexer.{unescape}
+use Rattle.lexer_names.specs.Names.{spelled_of}
+use Rattle.buffer.specs.Stored.{stored, placed}
+use Rattle.buffer.specs.Laws.{went_on}
+use Rattle.map_spec.specs.Drawing.{letters}
+use borrow.Author.Rules.{rules}
+use Rattle.map_dot.proofs.quoted.put_unescaped.Given as goal
+
+abbrev pub invariant-loop-i : goal.invariant-loop-i
+invariant-loop-i l = (placed l.k (letters (unescape 0 0 (drop l.i l.inner))) ≡ placed l.at (letters (unescape 0 0 l.inner))) × (stored l.k (letters (unescape 0 0 (drop l.i l.inner))) l.out ≡ stored l.at (letters (unescape 0 0 l.inner)) l.initial.out) × (length l.out ≡ length l.initial.out)
+
+abbrev pub decreases-loop-i : goal.decreases-loop-i
+decreases-loop-i l = length l.inner - l.i
