@@ -1,9 +1,9 @@
 -- The text's end says whether it fits, and zeros stand behind it.
-use mathlib.Core.Logic.{⊎_elim}
 use Rattle.map_spec.specs.Buffer.{block_map}
 use Rattle.map_dot.proofs.Outcomes.{whole, over_limit, over_room}
 use borrow.Author.Rules.{rules}
 use Rattle.map_dot.proofs.block_map.Goals as goal
+use Rattle.map_dot.proofs.block_map.Goals.{then-n-le-TEXT_LIMIT+else-n-out, else-n-le-TEXT_LIMIT}
 
 pub returns-then-n-out : goal.returns-then-n-out
 unfolding block_map
@@ -13,5 +13,9 @@ returns-then-n-out c =
 pub returns : goal.returns
 unfolding block_map
 returns c =
-    ⊎_elim (λ w. over_room _ c.args.out.now _ c.put_map-n.ensures.place c.put_map-n.new.out _ c.put_map-n.auto.out w.0.taken w.1.left c.clear-2.ensures)
-    (λ w. over_limit _ c.args.out.now _ c.put_map-n.ensures.place c.put_map-n.new.out _ c.put_map-n.auto.out w.left c.clear-2.ensures) c.if-n-le-TEXT_LIMIT.branch
+    elim c.if-n-le-TEXT_LIMIT.branch [
+      | then-n-le-TEXT_LIMIT+else-n-out w ↦
+          over_room _ c.args.out.now _ c.put_map-n.ensures.place c.put_map-n.new.out _ c.put_map-n.auto.out w.if-n-le-TEXT_LIMIT.true w.if-n-out.false c.clear-2.ensures
+      | else-n-le-TEXT_LIMIT w ↦
+          over_limit _ c.args.out.now _ c.put_map-n.ensures.place c.put_map-n.new.out _ c.put_map-n.auto.out w.if-n-le-TEXT_LIMIT.false c.clear-2.ensures
+    ]

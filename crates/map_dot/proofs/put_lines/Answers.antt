@@ -1,5 +1,4 @@
 use mathlib.Core.Path.{◌≡◌, refl, ap, ◌∙◌}
-use mathlib.Core.Logic.{⊎_elim}
 use Prim.Native.Nat.{◌+◌, ◌-◌, ◌*◌}
 use native.Mathlib.Omega.{arith}
 use lib.ListN.{length, get_or, drop}
@@ -12,6 +11,7 @@ use Rattle.map_dot.proofs.Ends.{done, past}
 use Rattle.map_dot.proofs.Lines.{block, lines_from, turn, edges_shown, nodes_shown, lines_over, lines_done}
 use borrow.Author.Rules.{rules}
 use Rattle.map_dot.proofs.put_lines.Goals as goal
+use Rattle.map_dot.proofs.put_lines.Goals.{then-edges, else-edges}
 
 pub loop-i-init : goal.loop-i-init
 loop-i-init c =
@@ -32,8 +32,12 @@ loop-i-preserved c =
     let n = get_or c.args.directory.now ((c.loop-i.i + 1) * entry_words + 2) 0 in
     let b = block c.args.text.now ws c.args.directory.now (c.loop-i.i + 1) in
     let s : Stores (sort_of_lines c.args.edges b) c.loop-i.k c.loop-i.out c.if-edges.k c.if-edges.out × (length c.if-edges.out ≡ length c.loop-i.out) =
-    ⊎_elim (λ w. (edges_shown _ c.args.text.now ws _ _ x n _ c.piece_text-piece.ensures c.Node-at.ensures c.word_at.ensures w.0.taken w.2.ensures w.6 w.5, ap length w.5 ∙ w.2.kept.0))
-    (λ w. (nodes_shown _ c.args.text.now ws _ _ x n _ c.piece_text-piece.ensures c.Node-at.ensures c.word_at.ensures w.0.left w.2.ensures w.6 w.5, ap length w.5 ∙ w.2.kept.0)) c.if-edges.branch in
+    elim c.if-edges.branch [
+      | then-edges w ↦
+          (edges_shown _ c.args.text.now ws _ _ x n _ c.piece_text-piece.ensures c.node_at-own.ensures c.word_at.ensures w.if-edges.true w.put_edges-k.ensures w.k-is w.out-is, c.if-edges.auto.out)
+      | else-edges w ↦
+          (nodes_shown _ c.args.text.now ws _ _ x n _ c.piece_text-piece.ensures c.node_at-own.ensures c.word_at.ensures w.if-edges.false w.put_node-k.ensures w.k-is w.out-is, c.if-edges.auto.out)
+    ] in
     let t = turn (sort_of_lines c.args.edges) c.args.text.now ws c.args.directory.now c.loop-i.i c.args.n _ c.loop-i-test.true (omega (arith, c.if-directory-i.false)) c.behind_node-w-in-loop-i.ensures s.0 c.loop-i.invariant.0 c.loop-i.invariant.1 in
     (t.0, t.1, s.1 ∙ c.loop-i.invariant.2)
 

@@ -14,12 +14,12 @@ unfolding placed stored
 returns-then-not-names_targets c =
     rw (no_targets _ c.args.piece.now c.args.own.now c.args.terminator
     (sym (ap branches
-    (c.kind_in.ensures ∙ ap kind_in c.word_at-header.ensures)) ∙ sym c.names_targets.ensures ∙ not-true _ c.if-not-names_targets.true)) (record { place = refl; buffer = refl })
+    (c.kind_in.ensures ∙ ap kind_in c.word_at-header.ensures)) ∙ sym c.names_targets.ensures ∙ c.if-not-names_targets.true)) (record { place = refl; buffer = refl })
 
 pub returns-in-To : goal.returns-in-To
 returns-in-To c =
     rw (targets_there _ c.args.piece.now c.args.own.now c.args.terminator _ _ (sym (ap branches
-    (c.kind_in.ensures ∙ ap kind_in c.word_at-header.ensures)) ∙ sym c.names_targets.ensures ∙ not-false _ c.if-not-names_targets.false) (sym c.child.ensures ∙ ap reached c.in-To.is)
+    (c.kind_in.ensures ∙ ap kind_in c.word_at-header.ensures)) ∙ sym c.names_targets.ensures ∙ c.if-not-names_targets.false) (sym c.child.ensures ∙ ap reached c.in-To.is)
     (c.children_in.ensures ∙ ap children_in c.word_at-header.ensures)) c.put_edges_from.ensures
 
 pub returns-in-Nothing : goal.returns-in-Nothing

@@ -1,0 +1,62 @@
+-- The calls are the definition's steps in the same order; where there is no alignment the operands are read again one word earlier, and they are
+-- the same.
+use mathlib.Core.Path.{refl, ◌∙◌}
+use mathlib.Core.List.{[], ◌∷◌}
+use native.Mathlib.Omega.{arith}
+use Rattle.lexer.proofs.Laws.{then, val, spare, word_yes, word_no}
+use Rattle.node_words.proofs.Laws.{begin_then, push_then, patch_then, close_is}
+use Rattle.inst_operands.proofs.OperandLaws.{again}
+use Rattle.inst_memory.proofs.MemoryLaws.{align_none, align_some}
+use Rattle.grammar.specs.Instructions.{access}
+use borrow.Author.Rules.{rules}
+use Rattle.inst_memory.proofs.parse_access.Goals as goal
+
+pub end-requires : goal.end-requires
+end-requires c = c.requires
+
+pub shape_of-words-then-is_atomic : goal.shape_of-words-then-is_atomic
+shape_of-words-then-is_atomic c =
+    c.end.auto.words ∙ c.access_operands-q4.auto.words ∙ c.begin-q.auto.words
+
+pub returns-then-is_atomic : goal.returns-then-is_atomic
+unfolding access
+returns-then-is_atomic c =
+    begin_then _ c.begin-q.ensures
+    (val _ c.eat_ws-q1.ensures
+    (word_yes _ _ c.is_atomic.ensures c.if-is_atomic.true c.pass_word-q2.ensures
+    (val _ c.skip_volatile-q3.ensures
+    (then _ c.access_operands-q4.ensures
+    (λ x. val _ c.skip_atomic_ordering-q5.ensures
+    (spare 0 (omega arith) (c.end.ensures _)))))))
+
+pub access_operands-z-requires : goal.access_operands-z-requires
+access_operands-z-requires c = c.requires
+
+pub shape_of-words-then-t-eq0 : goal.shape_of-words-then-t-eq0
+shape_of-words-then-t-eq0 c =
+    c.close.auto.words ∙ c.access_operands-z.auto.words ∙ c.access_operands-q7.auto.words ∙ c.push-q6.auto.words ∙ c.begin-q.auto.words
+
+pub returns-then-t-eq0 : goal.returns-then-t-eq0
+unfolding access
+returns-then-t-eq0 c =
+    begin_then _ c.begin-q.ensures
+    (val _ c.eat_ws-q1.ensures
+    (word_no _ _ c.is_atomic.ensures c.if-is_atomic.false
+    (val _ c.skip_volatile-p1.ensures
+    (again _ c.push-q6.ensures c.access_operands-q7.ensures (align_none _ c.if-t-eq0.true c.parse_trailing-t.ensures) c.access_operands-z.ensures c.resume-q9.ensures (λ x. close_is _ _ _ _ c.close.ensures)))))
+
+pub shape_of-words : goal.shape_of-words
+shape_of-words c =
+    c.close-2.auto.words ∙ c.patch-q10.auto.words ∙ c.access_operands-q7.auto.words ∙ c.push-q6.auto.words ∙ c.begin-q.auto.words
+
+pub returns : goal.returns
+unfolding access
+returns c =
+    begin_then _ c.begin-q.ensures
+    (val _ c.eat_ws-q1.ensures
+    (word_no _ _ c.is_atomic.ensures c.if-is_atomic.false
+    (val _ c.skip_volatile-p1.ensures
+    (push_then _ c.push-q6.ensures
+    (then _ c.access_operands-q7.ensures
+    (λ x. val _ (align_some _ c.if-t-eq0.false c.parse_trailing-t.ensures)
+    (patch_then 2 _ (0 ∷ _ ∷ []) _ _ refl c.patch-q10.ensures (close_is _ _ _ _ c.close-2.ensures))))))))

@@ -1,0 +1,36 @@
+use Rattle.records.specs.Limits.{turns}
+use Rattle.grammar.specs.Instructions.{clauses_in, parse_trailing}
+use Rattle.lexer.specs.Reads.{Comes}
+use Rattle.lexer.proofs.Laws.{g_done, g_stay, g_on, g_then, g_more, g_no_more}
+use mathlib.Core.List.{[]}
+use Rattle.inst_operands.specs.Trailing.{align_of, trailing}
+use borrow.Author.Rules.{rules}
+use Rattle.inst_operands.proofs.parse_trailing.Goals as goal
+
+pub loop-left-init : goal.loop-left-init
+unfolding align_of
+loop-left-init c = g_stay
+
+pub loop-left-preserved : goal.loop-left-preserved
+loop-left-preserved c =
+    g_on c.loop-left.invariant
+    (g_more (λ u. trailing u (align_of c.loop-left.has c.loop-left.v)) c.loop-left.left c.loop-left-test.true
+    (c.trail_step-s.ensures.again c.if-s.true _))
+
+pub returns-else-s : goal.returns-else-s
+unfolding parse_trailing
+returns-else-s c =
+    g_then _
+    (g_on c.loop-left.invariant
+    (g_more (λ u. trailing u (align_of c.loop-left.has c.loop-left.v)) c.loop-left.left c.loop-left-test.true
+    (c.trail_step-s.ensures.over c.if-s.false _)))
+    g_done
+
+pub returns : goal.returns
+unfolding parse_trailing clauses_in
+returns c =
+    g_then _
+    (g_on c.loop-left.invariant
+    (g_no_more (λ u. trailing u
+    (align_of c.loop-left.has c.loop-left.v)) c.loop-left.left c.loop-left-test.false g_done))
+    g_done

@@ -1,0 +1,12 @@
+-- The code's calls are the definition's steps in the same order: slot and destination, fast-math flags, the rest of an operation.
+use Rattle.lexer.proofs.Laws.{val}
+use Rattle.node_words.proofs.Laws.{begin_then}
+use Rattle.grammar.specs.Instructions.{parse_fbin}
+use borrow.Author.Rules.{rules}
+use Rattle.inst_operations.proofs.parse_fbin.Goals as goal
+
+pub returns : goal.returns
+unfolding parse_fbin
+returns c = begin_then _ c.begin-q.ensures
+    (val _ c.skip_fast_math_flags-q1.ensures
+    (c.binary.ensures _))

@@ -1,0 +1,18 @@
+-- White space, then the rank: below 10 it is the predicate's, else no predicate stands there and both refuse.
+use Rattle.grammar.specs.Instructions.{predicate, icmp_preds}
+use Rattle.lexer.proofs.Laws.{g_then, g_done, g_fail}
+use Rattle.lexer_keywords.proofs.Ranks.{g_rank_yes, g_rank_no}
+use borrow.Author.Rules.{rules}
+use Rattle.inst_operations.proofs.parse_icmp_pred.Goals as goal
+
+pub returns-then-r-lt10 : goal.returns-then-r-lt10
+unfolding predicate icmp_preds
+returns-then-r-lt10 c =
+    g_then _ c.eat_ws-q.ensures
+    (g_rank_yes _ _ _ c.icmp_rank-k.ensures c.if-r-lt10.true g_done)
+
+pub returns : goal.returns
+unfolding predicate icmp_preds
+returns c =
+    g_then _ c.eat_ws-q.ensures
+    (g_rank_no _ _ _ c.icmp_rank-k.ensures c.if-r-lt10.false (g_fail _ c.refuse-q2.ensures))

@@ -1,0 +1,54 @@
+use borrow.Author.Rules.{rules}
+use Rattle.inst_terminators.proofs.SwitchLaws.{labels_end, labels_more, cases_stop, cases_out}
+use Rattle.inst_operands.proofs.Twice.{kept_here, kept_on}
+use Rattle.inst_operands.specs.Kept.{kept, nothing}
+use Rattle.grammar.specs.Instructions.{switch_cases}
+use Rattle.lexer.specs.Reads.{Leads}
+use lib.ListN.{length}
+use mathlib.Core.List.{[]}
+use mathlib.Core.Path.{◌≡◌, refl, ◌∙◌}
+use native.Mathlib.Omega.{arith}
+use Rattle.inst_terminators.proofs.switch.switch_labels.Goals as goal
+
+pub loop-left-init : goal.loop-left-init
+loop-left-init c = (kept_here (λ ints labels. switch_cases 65536 3 ints labels) nothing [] (omega arith), refl)
+
+pub eat_ws-q-requires : goal.eat_ws-q-requires
+eat_ws-q-requires c = c.requires
+
+pub shape_of-words-then-looks : goal.shape_of-words-then-looks
+shape_of-words-then-looks c = c.loop-left.invariant.1
+
+pub returns-then-looks : goal.returns-then-looks
+returns-then-looks c =
+    kept_on c.loop-left.invariant.0
+    (λ ints labels. labels_end _ _ ints labels c.loop-left-test.true c.eat_ws-q.ensures c.looks.ensures c.if-looks.true c.pass-q.ensures)
+
+pub case_int-c-requires : goal.case_int-c-requires
+case_int-c-requires c = c.requires
+
+pub target-t-requires : goal.target-t-requires
+target-t-requires c = c.requires
+
+pub shape_of-words-then-stopped : goal.shape_of-words-then-stopped
+shape_of-words-then-stopped c = c.loop-left.invariant.1
+
+pub returns-then-stopped : goal.returns-then-stopped
+returns-then-stopped c =
+    kept_on c.loop-left.invariant.0
+    (λ ints labels. cases_stop _ _ ints labels c.loop-left-test.true c.eat_ws-q.ensures c.looks.ensures c.if-looks.false c.case_int-c.ensures c.target-t.ensures c.count_child-q.ensures c.stopped.ensures c.if-stopped.true)
+
+pub loop-left-preserved : goal.loop-left-preserved
+loop-left-preserved c = (
+  kept_on c.loop-left.invariant.0
+      (λ ints labels. labels_more _ _ ints labels c.loop-left-test.true c.eat_ws-q.ensures c.looks.ensures c.if-looks.false c.case_int-c.ensures c.target-t.ensures c.count_child-q.ensures _ c.one_more-n.ensures (c.label_node-q.ensures _)),
+  c.label_node-q.auto.words ∙ c.loop-left.invariant.1,
+)
+
+pub shape_of-words : goal.shape_of-words
+shape_of-words c = c.loop-left.invariant.1
+
+pub returns : goal.returns
+returns c =
+    kept_on c.loop-left.invariant.0
+    (λ ints labels. cases_out _ _ ints labels c.loop-left-test.false c.refuse-q.ensures)
