@@ -17,7 +17,7 @@ overflow_add-at c =
 pub overflow_add-at-then-kind_in-eq-K_INT_CONST : goal.overflow_add-at-then-kind_in-eq-K_INT_CONST
 overflow_add-at-then-kind_in-eq-K_INT_CONST c =
     record {
-      fits = omega (arith, c.well-formed, kind_inside c.args.node.now c.in-To.at (omega (arith, ap kind_in c.word_at.ensures, c.kind_in.ensures, c.if-kind_in-eq-K_INT_CONST.true)));
+      fits = omega (arith, c.well_formed, kind_inside c.args.node.now c.in-To.at (omega (arith, ap kind_in c.word_at.ensures, c.kind_in.ensures, c.if-kind_in-eq-K_INT_CONST.true)));
     }
 
 pub returns-then-kind_in-eq-K_INT_CONST : goal.returns-then-kind_in-eq-K_INT_CONST

@@ -18,13 +18,13 @@ returns-then-directory-i c =
 
 pub returns-in-Found : goal.returns-in-Found
 returns-in-Found c =
-    sym (blocks_turn c.loop-left.more c.loop-left.left c.args.text.now (drop c.loop-left.w c.args.words.now) c.args.directory.now c.loop-left.i _ _ _ c.loop-left-test.true (omega (arith, c.if-directory-i.false)) c.piece_text-piece.ensures c.Node-at.ensures
+    sym (blocks_turn c.loop-left.more c.loop-left.left c.args.text.now (drop c.loop-left.w c.args.words.now) c.args.directory.now c.loop-left.i _ _ _ c.loop-left-test.true (omega (arith, c.if-directory-i.false)) c.piece_text-piece.ensures c.node_at.ensures
     (sym c.seek_in.ensures ∙ c.in-Found.is)) ∙ c.loop-left.invariant
 
 pub loop-left-preserved : goal.loop-left-preserved
 loop-left-preserved c =
     rw c.behind_node-w-in-loop-left.ensures
-    (sym (blocks_turn c.loop-left.more c.loop-left.left c.args.text.now (drop c.loop-left.w c.args.words.now) c.args.directory.now c.loop-left.i _ _ _ c.loop-left-test.true (omega (arith, c.if-directory-i.false)) c.piece_text-piece.ensures c.Node-at.ensures (sym c.seek_in.ensures ∙ c.in-Left.is)) ∙ c.loop-left.invariant)
+    (sym (blocks_turn c.loop-left.more c.loop-left.left c.args.text.now (drop c.loop-left.w c.args.words.now) c.args.directory.now c.loop-left.i _ _ _ c.loop-left-test.true (omega (arith, c.if-directory-i.false)) c.piece_text-piece.ensures c.node_at.ensures (sym c.seek_in.ensures ∙ c.in-Left.is)) ∙ c.loop-left.invariant)
 
 pub returns : goal.returns
 returns c =

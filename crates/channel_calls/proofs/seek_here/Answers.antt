@@ -16,12 +16,12 @@ returns-then-kind_in-ne-K_CALL c =
 pub returns-then-not-calls_fire_at : goal.returns-then-not-calls_fire_at
 returns-then-not-calls_fire_at c =
     not_fire c.args.k c.args.piece.now c.args.node.now _ c.word_at-header.ensures (sym c.kind_in.ensures ∙ c.if-kind_in-ne-K_CALL.false)
-    (rw (← c.detail_in.ensures, ← c.callee_place-callee.ensures, ← c.child_at.ensures, ← c.calls_fire_at.ensures) (not-true _ c.if-not-calls_fire_at.true))
+    (rw (← c.detail_in.ensures, ← c.callee_place-callee.ensures, ← c.child_at.ensures, ← c.calls_fire_at.ensures) (c.if-not-calls_fire_at.true))
 
 pub returns-then-k-gt0 : goal.returns-then-k-gt0
 returns-then-k-gt0 c =
     fire_passed c.args.k c.args.piece.now c.args.node.now _ c.word_at-header.ensures (sym c.kind_in.ensures ∙ c.if-kind_in-ne-K_CALL.false)
-    (rw (← c.detail_in.ensures, ← c.callee_place-callee.ensures, ← c.child_at.ensures, ← c.calls_fire_at.ensures) (not-false _ c.if-not-calls_fire_at.false))
+    (rw (← c.detail_in.ensures, ← c.callee_place-callee.ensures, ← c.child_at.ensures, ← c.calls_fire_at.ensures) (c.if-not-calls_fire_at.false))
     c.if-k-gt0.true
 
 pub overflow_add-callee : goal.overflow_add-callee
@@ -35,5 +35,5 @@ pub returns : goal.returns
 returns c =
     ap Found (c.constant_at.ensures ∙ rw (c.child_at-2.ensures, c.callee_place-callee.ensures, c.detail_in.ensures))
     ∙ fire_found c.args.k c.args.piece.now c.args.node.now _ c.word_at-header.ensures (sym c.kind_in.ensures ∙ c.if-kind_in-ne-K_CALL.false)
-    (rw (← c.detail_in.ensures, ← c.callee_place-callee.ensures, ← c.child_at.ensures, ← c.calls_fire_at.ensures) (not-false _ c.if-not-calls_fire_at.false))
+    (rw (← c.detail_in.ensures, ← c.callee_place-callee.ensures, ← c.child_at.ensures, ← c.calls_fire_at.ensures) (c.if-not-calls_fire_at.false))
     c.if-k-gt0.false
