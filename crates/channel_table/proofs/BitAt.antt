@@ -39,14 +39,14 @@ least_small x y = omega (arith, mod-lt x two, mod-lt y two)
 most_small : (x y : ℕ) → max (x % 2) (y % 2) < 2
 most_small x y = omega (arith, mod-lt x two, mod-lt y two)
 
-pub bit_and : (k a b : ℕ) → bit k (bit_and a b) ≡ min (bit k a) (bit k b)
-bit_and k a b =
+pub bit_and_lem : (k a b : ℕ) → bit k (bit_and a b) ≡ min (bit k a) (bit k b)
+bit_and_lem k a b =
     let x : ℕ = a / 2 ^ k in
     let y : ℕ = b / 2 ^ k in
     ap (λ (i : ℕ). i % 2) (and_shr a b k ∙ and_step x y) ∙ digits_mod (bit_and (x / 2) (y / 2)) (least_small x y)
 
-pub bit_or : (k a b : ℕ) → bit k (bit_or a b) ≡ max (bit k a) (bit k b)
-bit_or k a b =
+pub bit_or_lem : (k a b : ℕ) → bit k (bit_or a b) ≡ max (bit k a) (bit k b)
+bit_or_lem k a b =
     let x : ℕ = a / 2 ^ k in
     let y : ℕ = b / 2 ^ k in
     ap (λ (i : ℕ). i % 2) (or_shr a b k ∙ or_step x y) ∙ digits_mod (bit_or (x / 2) (y / 2)) (most_small x y)

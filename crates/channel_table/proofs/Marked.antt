@@ -16,7 +16,7 @@ use Rattle.channel_spec.specs.declared.Rule.{Rule}
 use Rattle.channel_spec.specs.Table.{channels, overlap, covers}
 use Rattle.channel_table.specs.declared.windows.Window.{Window}
 use Rattle.channel_table.specs.Windows.{window_size, window_at, bits_of, marks_of, is_of_class, meets, break_before, marked}
-use Rattle.channel_table.proofs.BitAt.{bit, one, bit_and, bit_or, range_in, range_above, range_below, zero_bit, has_bit}
+use Rattle.channel_table.proofs.BitAt.{bit, one, bit_and_lem, bit_or_lem, range_in, range_above, range_below, zero_bit, has_bit}
 
 pub clash : false ≡ true → ⊥
 clash e = let z : ◌≡◌ {A = ℕ} 0 1 = ap one e in absurd (omega arith)
@@ -203,7 +203,7 @@ placed c x r rs w W e = rw (marked, e) (record {
 
     set : (k b : ℕ) → bit k w.marks ≡ b → bit k (bit_or w.marks (marks_of r w.from)) ≡ 1 → (k < window_size) × Covered c (x + k) (r ∷ rs)
     set k zero e b =
-        let m : bit k (marks_of r w.from) ≡ 1 = omega (arith, sym (bit_or k w.marks (marks_of r w.from)) ∙ b, bit_two k (marks_of r w.from)) in
+        let m : bit k (marks_of r w.from) ≡ 1 = omega (arith, sym (bit_or_lem k w.marks (marks_of r w.from)) ∙ b, bit_two k (marks_of r w.from)) in
         let h = marks_has r x k (ap (λ (f : ℕ). bit k (marks_of r f)) (sym W.from_is) ∙ m) in
         (h.0, (0, (omega arith, covers_made c (x + k) r own h.1.0 h.1.1)))
     set k (suc zero) e b = let h = W.has k e in (h.0, (suc h.1.0, (omega (arith, h.1.1.0), h.1.1.1)))
@@ -213,10 +213,10 @@ placed c x r rs w W e = rw (marked, e) (record {
     gets k l zero h e =
         let p = covers_parts c (x + k) r e in
         let m : bit k (marks_of r w.from) ≡ 1 = ap (λ (f : ℕ). bit k (marks_of r f)) W.from_is ∙ marks_in r x k l p.1.0 p.1.1 in
-        omega (arith, bit_or k w.marks (marks_of r w.from), bit_two k w.marks)
+        omega (arith, bit_or_lem k w.marks (marks_of r w.from), bit_two k w.marks)
     gets k l (suc i) h e =
         let m : bit k w.marks ≡ 1 = W.into k l (i, (omega arith, e)) in
-        omega (arith, bit_or k w.marks (marks_of r w.from), bit_two k (marks_of r w.from))
+        omega (arith, bit_or_lem k w.marks (marks_of r w.from), bit_two k (marks_of r w.from))
 
     at_begin : (i : ℕ) → i < suc (length rs) → (rule (r ∷ rs) i).account_class ≡ c → x + window_size ≤ (rule (r ∷ rs) i).first → last_next ≤ (rule (r ∷ rs) i).first
     at_begin zero l q h =
@@ -256,7 +256,7 @@ meets_has c x r rs w W e =
     let m : ℕ = bit_and w.marks (marks_of r w.from) in
     let some : 0 < m = positive m (not-true _ p.1) in
     let (k, b) = has_bit m some in
-    let a : min (bit k w.marks) (bit k (marks_of r w.from)) ≡ 1 = sym (bit_and k w.marks (marks_of r w.from)) ∙ b in
+    let a : min (bit k w.marks) (bit k (marks_of r w.from)) ≡ 1 = sym (bit_and_lem k w.marks (marks_of r w.from)) ∙ b in
     let one-here : bit k w.marks ≡ 1 = omega (arith, bit_two k w.marks) in
     let one_there : bit k (marks_of r w.from) ≡ 1 = omega (arith, bit_two k (marks_of r w.from)) in
     let h = marks_has r x k (ap (λ (f : ℕ). bit k (marks_of r f)) (sym W.from_is) ∙ one_there) in
@@ -273,7 +273,7 @@ meets_made c x r rs w W k l e C =
     let q : w.class ≡ r.account_class = W.class_is ∙ sym p.0 in
     let one-here : bit k w.marks ≡ 1 = W.into k l C in
     let one_there : bit k (marks_of r w.from) ≡ 1 = ap (λ (f : ℕ). bit k (marks_of r f)) W.from_is ∙ marks_in r x k l p.1.0 p.1.1 in
-    let a : bit k (bit_and w.marks (marks_of r w.from)) ≡ 1 = omega (arith, bit_and k w.marks (marks_of r w.from)) in
+    let a : bit k (bit_and w.marks (marks_of r w.from)) ≡ 1 = omega (arith, bit_and_lem k w.marks (marks_of r w.from)) in
     rw (eq-eqb _ _ q, ne_eqb (bit_and w.marks (marks_of r w.from)) 0 (λ z. nothing (ap (bit k) z ∙ zero_bit k) a))
   where
     nothing : {b : ℕ} → b ≡ 0 → b ≡ 1 → ⊥

@@ -7,8 +7,8 @@
 
 pub mod windows; // windows.rt: a window of channels, and what a rule marks in it
 
-ghost use Rattle.std.specs.Prelude.{◌≡◌, length};
-ghost use Rattle.channel_spec.specs.Table.{is_bad, overlap, covers};
+ghost use Rattle.std.specs.Prelude.{◌≡◌, ◌<◌, length, slice_index_or};
+ghost use Rattle.channel_spec.specs.Table.{channels, is_bad, overlap, covers};
 ghost use Rattle.channel_spec.specs.Answers.{ruling};
 ghost use Rattle.channel_table.specs.Search.{no_rule, covers_call, finds, question_after, found_after, moved, look, pass, done, later, gap_after, answering, behind_windows, behind_window, answered, turned, shown, begin};
 
@@ -376,6 +376,29 @@ pub fn begin(asked: u64, fired: Fired, count: usize) -> Search
     pass(s, Question::Bad, none)
 }
 
+// The last channel of a rule: a number of 16 bits, as its type says.
+fn last_of(rule: Rule) -> u16
+    ensures { result ≡ rule.last }
+{
+    rule.last
+}
+
+// The rule at a place of the table.
+fn rule_at(rules: &[Rule], at: usize) -> Rule
+    requires { at < length rules.now }
+    ensures copied { (d : Rule) → result ≡ slice_index_or rules.now at d }
+    ensures last_fits { result.last < channels }
+{
+    let rule = rules[at];
+    let last = last_of(rule);
+    Rule {
+        account_class: rule.account_class,
+        allowed: rule.allowed,
+        first: rule.first,
+        last,
+    }
+}
+
 // What the table and a call say to a class.
 pub fn judged(rules: &[Rule], asked: u64, fired: Fired) -> Told
     ensures { result ≡ ruling asked rules.now fired }
@@ -383,7 +406,7 @@ pub fn judged(rules: &[Rule], asked: u64, fired: Fired) -> Told
     let mut s = begin(asked, fired, rules.len());
     while s.at < rules.len() {
         let at = s.at;
-        s = shown(s, rules[at]);
+        s = shown(s, rule_at(rules, at));
     }
     s.told
 }

@@ -1,9 +1,9 @@
 -- What is kept is the rule that was shown, where it is before the one found and answers the question, and else the one found.
-use mathlib.Core.Logic.{⊎_elim}
 use borrow.Author.Tests.{lt-ltb, le-ltb}
 use Rattle.channel_table.specs.Search.{found_after}
 use borrow.Author.Rules.{rules}
 use Rattle.channel_table.proofs.found_after.Goals as goal
+use Rattle.channel_table.proofs.found_after.Goals.{then-s+else-finds, else-s}
 
 pub returns-then-finds : goal.returns-then-finds
 unfolding found_after
@@ -14,5 +14,7 @@ returns-then-finds c =
 pub returns : goal.returns
 unfolding found_after
 returns c =
-    ⊎_elim (λ w. rw (lt-ltb _ _ w.0.taken, ← w.1.ensures, w.2.left, found_after))
-    (λ w. rw (le-ltb _ _ w.left, found_after)) c.if-s.branch
+    elim c.if-s.branch [
+      | then-s+else-finds w ↦ rw (lt-ltb _ _ w.if-s.true, ← w.finds.ensures, w.if-finds.false, found_after)
+      | else-s w ↦ rw (le-ltb _ _ w.if-s.false, found_after)
+    ]

@@ -8,14 +8,12 @@ use Rattle.channel_table.proofs.windows.first_clear.Goals as goal
 
 pub returns-then-marks-k-eq0 : goal.returns-then-marks-k-eq0
 returns-then-marks-k-eq0 c =
-    let p = c.before.before in
-    sym (p.loop.invariant ∙ clear_here _ p.loop.k _ (omega (arith, c.loop-k-test.true)) c.if-marks-k-eq0.true)
+    sym (c.loop-k.invariant ∙ clear_here _ c.loop-k.k _ (omega (arith, c.loop-k-test.true)) c.if-marks-k-eq0.true)
 
 pub loop-k-preserved : goal.loop-k-preserved
 loop-k-preserved c =
-    let p = c.before.before in
-    let z : window_size - (p.loop.k + 1) ≡ window_size - p.loop.k - 1 = omega arith in
-    p.loop.invariant ∙ clear_next _ p.loop.k _ (omega (arith, c.loop-k-test.true)) c.if-marks-k-eq0.false ∙ rw z
+    let z : window_size - (c.loop-k.k + 1) ≡ window_size - c.loop-k.k - 1 = omega arith in
+    c.loop-k.invariant ∙ clear_next _ c.loop-k.k _ (omega (arith, c.loop-k-test.true)) c.if-marks-k-eq0.false ∙ rw z
 
 pub returns : goal.returns
 returns c = sym (c.loop-k.invariant ∙ clear_none _ c.loop-k.k _ (omega (arith, c.loop-k-test.false)))

@@ -1,0 +1,9 @@
+-- It is the call's node; whether it is void does not matter here.
+use borrow.Author.Rules.{rules}
+use Rattle.inst_calls.proofs.parse_call.Goals as goal
+
+pub shape_of-words : goal.shape_of-words
+shape_of-words c = c.call_node-r.auto.words
+
+pub returns : goal.returns
+returns c = c.call_node-r.ensures.0

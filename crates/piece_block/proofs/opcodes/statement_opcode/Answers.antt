@@ -1,0 +1,13 @@
+-- The tables' words, cut by their lengths, are those of the definition, and a rank among so few fits a byte.
+use mathlib.Core.Path.{◌∙◌}
+use lib.Dec.{lit<}
+use Rattle.lexer.specs.Table.{cut}
+use Rattle.grammar.specs.Instructions.{tail_words}
+use Rattle.piece_block.specs.Opcodes.{statement_words}
+use Rattle.piece_block.proofs.OpcodeLaws.{rank_small}
+use borrow.Author.Rules.{rules}
+use Rattle.piece_block.proofs.opcodes.statement_opcode.Goals as goal
+
+pub returns : goal.returns
+unfolding statement_words tail_words cut
+returns c = c.narrow.ensures (rank_small _ statement_words c.spelled_rank-r.ensures (lit< tt)) ∙ c.spelled_rank-r.ensures

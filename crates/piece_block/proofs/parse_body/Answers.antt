@@ -1,0 +1,58 @@
+use mathlib.Core.Path.{◌≡◌, refl, ◌∙◌}
+use mathlib.Core.List.{[]}
+use Prim.Native.Nat.{◌+◌, ◌≤◌}
+use native.Mathlib.Omega.{arith}
+use lib.ListN.{length}
+use Rattle.grammar.specs.Body.{parse_body}
+use Rattle.lexer.specs.Reads.{Leads, reach}
+use Rattle.lexer.proofs.Laws.{stay}
+use Rattle.inst_operands.specs.Rich.{richly}
+use Rattle.inst_operands.proofs.RichLaws.{enrich}
+use Rattle.piece_block.proofs.BlockLaws.{lead_anew, body_tail, body_label, body_instruction, body_terminator, body_out}
+use borrow.Author.Rules.{rules}
+use Rattle.piece_block.proofs.parse_body.Goals as goal
+
+pub loop-left-init : goal.loop-left-init
+loop-left-init c = (omega arith, enrich (stay (parse_body 16777217 _ 0 0 0)), refl)
+
+pub shape_of-words-then-looks : goal.shape_of-words-then-looks
+shape_of-words-then-looks c = c.loop-left.invariant.2
+
+pub returns-then-looks : goal.returns-then-looks
+returns-then-looks c = body_tail _ _ _ _ _ c.loop-left.invariant.1 c.loop-left-test.true c.eat_ws-r.ensures c.looks.ensures c.if-looks.true c.pass-r1.ensures
+
+pub overflow_sub-left : goal.overflow_sub-left
+overflow_sub-left c = omega (arith, c.loop-left-test.true)
+
+pub loop-left-smaller-then-kind-eq-LABEL : goal.loop-left-smaller-then-kind-eq-LABEL
+loop-left-smaller-then-kind-eq-LABEL c = omega (arith, c.loop-left-test.true)
+
+pub loop-left-preserved-then-kind-eq-LABEL : goal.loop-left-preserved-then-kind-eq-LABEL
+loop-left-preserved-then-kind-eq-LABEL c =
+    (omega (arith, c.loop-left.invariant.0, c.loop-left-test.true), body_label _ _ _ _ _ c.loop-left.invariant.1 c.loop-left-test.true c.eat_ws-r.ensures c.looks.ensures c.if-looks.false (lead_anew c.anew-r3.ensures c.parse_statement-s.ensures) c.if-kind-eq-LABEL.true, c.parse_statement-s.auto.words ∙ c.loop-left.invariant.2)
+
+pub overflow_add-n : goal.overflow_add-n
+overflow_add-n c = omega (arith, c.loop-left.invariant.0)
+
+pub overflow_sub-left-then-kind-eq-INSTRUCTION : goal.overflow_sub-left-then-kind-eq-INSTRUCTION
+overflow_sub-left-then-kind-eq-INSTRUCTION c = omega (arith, c.loop-left-test.true)
+
+pub loop-left-smaller : goal.loop-left-smaller
+loop-left-smaller c = omega (arith, c.loop-left-test.true)
+
+pub loop-left-preserved : goal.loop-left-preserved
+loop-left-preserved c =
+    (omega (arith, c.loop-left.invariant.0, c.loop-left-test.true), body_instruction _ _ _ _ _ c.loop-left.invariant.1 c.loop-left-test.true c.eat_ws-r.ensures c.looks.ensures c.if-looks.false (lead_anew c.anew-r3.ensures c.parse_statement-s.ensures) _ _ c.if-kind-eq-INSTRUCTION.true c.place-at.ensures c.over_at-over.ensures, c.parse_statement-s.auto.words ∙ c.loop-left.invariant.2)
+
+pub shape_of-words-else-kind-eq-INSTRUCTION : goal.shape_of-words-else-kind-eq-INSTRUCTION
+shape_of-words-else-kind-eq-INSTRUCTION c = c.parse_statement-s.auto.words ∙ c.loop-left.invariant.2
+
+pub returns-else-kind-eq-INSTRUCTION : goal.returns-else-kind-eq-INSTRUCTION
+returns-else-kind-eq-INSTRUCTION c =
+    body_terminator _ _ _ _ _ c.loop-left.invariant.1 c.loop-left-test.true c.eat_ws-r.ensures c.looks.ensures c.if-looks.false (lead_anew c.anew-r3.ensures c.parse_statement-s.ensures) c.if-kind-eq-LABEL.false c.if-kind-eq-INSTRUCTION.false
+
+pub shape_of-words : goal.shape_of-words
+shape_of-words c = c.loop-left.invariant.2
+
+pub returns : goal.returns
+returns c = body_out _ _ _ _ _ c.loop-left.invariant.1 c.loop-left-test.false c.refuse-q1.ensures
