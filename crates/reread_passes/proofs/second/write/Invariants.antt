@@ -1,0 +1,14 @@
+-- The invariant: the pieces up to `number` stand in the arrays, and nothing else changed. What is read is what the first pass counted, so none refuses.
+use mathlib.Core.Path.{◌∙◌, subst}
+use Prim.Native.Nat.{◌-◌}
+use native.Mathlib.Omega.{arith}
+use Rattle.reread_passes.specs.Numbered.{PieceIn}
+use Rattle.reread_passes.proofs.Rewrite.{Writing, writing_first, at_in, to_in, pos_in, writing_end, lid, entry_in, never_stops, tail_in, writing_tail, piece_in, words_in_lem, writing_next}
+use borrow.Author.Rules.{rules}
+use Rattle.reread_passes.proofs.second.write.Given as goal
+
+abbrev pub invariant-loop-number : goal.invariant-loop-number
+invariant-loop-number l = Writing l.newer l.initial.number l.initial.pos l.initial.word l.initial.counter l.last l.to l.initial.words l.initial.directory l.number l.pos l.word l.counter l.words l.directory
+
+abbrev pub decreases-loop-number : goal.decreases-loop-number
+decreases-loop-number l = l.last - l.number
