@@ -3,13 +3,13 @@
 -- Assumes nothing.
 use Rattle.std.specs.Prelude.{Bool, true, false, ◌&&◌, not, List, [], ◌∷◌, ℕ, zero, suc, ◌+◌, ◌-◌, ◌/◌, ◌^◌, eqb, get_or, drop}
 use Rattle.std.proofs.Math.Option.{Option, none, some}
-use Rattle.program.specs.Prog.{Res, ok, closed, no_at, run, ◌>>=◌}
+use Rattle.program.specs.Prog.{ok, closed, no_at, run, ◌>>=◌}
 use Rattle.records.specs.Words.{header}
 use Rattle.records.specs.Kinds.{kind, Void, Call}
 use Rattle.records.specs.Limits.{turns}
 use Rattle.records.specs.Details.{d_none}
 use Rattle.grammar.specs.Lexer.{eat_ws}
-use Rattle.grammar.specs.Body.{Statement, label, instruction, terminator, in_block, parse_statement}
+use Rattle.grammar.specs.Body.{label, instruction, terminator, in_block, parse_statement}
 
 -- "An unlabelled block" has the number that its directory entry holds as third word, c; l is its label's word, the second word of its node.
 unfoldable pub block_number : (c l : ℕ) → Option ℕ
