@@ -1,12 +1,14 @@
 // `pieces`: reads a function from standard input and lists its pieces, or tells where it is refused.
 #![tactic(auto)]
 
-ghost use Rattle.std.specs.Prelude.{length};
+ghost use Rattle.std.specs.Prelude.{length, ◌≤◌, IfOk};
 ghost use Rattle.grammar.specs.Function.{reading_of};
 ghost use Rattle.pieces_listing.specs.Lines.{printed_of};
 ghost use Rattle.buffer.specs.Stored.{Stores};
 
 use reading::Answer;
+use std::io;
+use std::io::{Read, Stdin, Write};
 
 // The longest text it takes.
 const MOST: usize = 65536;
@@ -21,12 +23,27 @@ fn show(text: &[u8], words: &mut [u64], directory: &mut [u64], out: &mut [u8]) -
     }
 }
 
-fn main() {
+// What standard input has, as far as there is room for it. How many bytes that is.
+fn read_full(input: &mut Stdin, text: &mut [u8]) -> io::Result<usize>
+    ensures { IfOk result (λ n. n ≤ length text.new) }
+{
+    let mut n = 0;
+    while n < text.len() {
+        let more = input.read(&mut text[n..])?;
+        if more == 0 {
+            return Ok(n);
+        }
+        n += more;
+    }
+    Ok(n)
+}
+
+fn main(rt: HostRuntime) -> io::Result<()> {
     let mut text = [0u8; 65537];
-    let n = io::read_full(0, &mut text);
+    let n = read_full(&mut rt.stdin(), &mut text)?;
+    let mut output = rt.stdout();
     if n > MOST {
-        io::write_all(1, b"too long\n");
-        return;
+        return output.write_all(b"too long\n");
     }
     let mut words = [0u64; 8192];
     let mut directory = [0u64; 2048];
@@ -34,6 +51,7 @@ fn main() {
     let mut out = [0u8; 65536];
     let k = show(&text[..n], &mut words, &mut directory, &mut out);
     if k <= 65536 {
-        io::write_all(1, &out[..k]);
+        output.write_all(&out[..k])?;
     }
+    Ok(())
 }

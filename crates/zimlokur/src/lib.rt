@@ -1,4 +1,4 @@
-// The calls for firmware and test benches, with C's prototypes in include/zimlokur.h.
+// The calls for firmware and test benches. `zimlokur_c` exports them to C, with the prototypes of include/zimlokur.h.
 #![tactic(auto)]
 
 ghost use Rattle.std.specs.Prelude.{◌≡◌, length};
@@ -16,8 +16,7 @@ use record_steps::Step;
 use record_steps::names::Text;
 
 // The full reading. Returns 0, or the number of the question that refuses; then both arrays are zero.
-#[unsafe(no_mangle)]
-pub extern "C" fn zimlokur_parse_define(
+pub fn zimlokur_parse_define(
     text: &[u8],
     words: &mut [u64],
     directory: &mut [u64],
@@ -41,8 +40,7 @@ pub extern "C" fn zimlokur_parse_define(
 }
 
 // The re-reading after an edit. Returns 0, or the number of the question that refuses; then both arrays are as they were lent.
-#[unsafe(no_mangle)]
-pub extern "C" fn zimlokur_reparse_define(
+pub fn zimlokur_reparse_define(
     older: &[u8],
     newer: &[u8],
     words: &mut [u64],
@@ -74,8 +72,7 @@ pub extern "C" fn zimlokur_reparse_define(
 }
 
 // The line and the column of a place, both counted from 1.
-#[unsafe(no_mangle)]
-pub extern "C" fn zimlokur_position(text: &[u8], place: u64, line: &mut u64, column: &mut u64)
+pub fn zimlokur_position(text: &[u8], place: u64, line: &mut u64, column: &mut u64)
     ensures { (line.new ≡ (position_of text.now place).line) × (column.new ≡ (position_of text.now place).column) }
 {
     let at = text_lines::position_of(text, place as usize);
@@ -84,8 +81,7 @@ pub extern "C" fn zimlokur_position(text: &[u8], place: u64, line: &mut u64, col
 }
 
 // The step to a node's first child. Returns 1 with the place it goes to, or 0 with the place it was asked at.
-#[unsafe(no_mangle)]
-pub extern "C" fn zimlokur_child(words: &[u64], at: u64, to: &mut u64) -> u64
+pub fn zimlokur_child(words: &[u64], at: u64, to: &mut u64) -> u64
     ensures { ReportsStep (child_of words.now at) at result to.new }
 {
     match record_steps::child(words, at as usize) {
@@ -101,8 +97,7 @@ pub extern "C" fn zimlokur_child(words: &[u64], at: u64, to: &mut u64) -> u64
 }
 
 // The step to the next node below an end. Returns 1 with the place it goes to, or 0 with the place it was asked at.
-#[unsafe(no_mangle)]
-pub extern "C" fn zimlokur_next(words: &[u64], at: u64, end: u64, to: &mut u64) -> u64
+pub fn zimlokur_next(words: &[u64], at: u64, end: u64, to: &mut u64) -> u64
     ensures { ReportsStep (next_of words.now at end) at result to.new }
 {
     match record_steps::next(words, at as usize, end as usize) {
@@ -118,8 +113,7 @@ pub extern "C" fn zimlokur_next(words: &[u64], at: u64, end: u64, to: &mut u64) 
 }
 
 // The text of a name. Returns 1 with the part's start and length in the piece, or 0 with both 0.
-#[unsafe(no_mangle)]
-pub extern "C" fn zimlokur_name(piece: &[u8], name: u64, start: &mut u64, len: &mut u64) -> u64
+pub fn zimlokur_name(piece: &[u8], name: u64, start: &mut u64, len: &mut u64) -> u64
     ensures { ReportsPart (part_of (length piece.now) name) result start.new len.new }
 {
     match record_steps::names::part(piece, name) {
@@ -137,8 +131,7 @@ pub extern "C" fn zimlokur_name(piece: &[u8], name: u64, start: &mut u64, len: &
 }
 
 // The block map, from what a reading left and its text. Returns 0 with how many bytes the map has, or 27 with 0; then the buffer is zero.
-#[unsafe(no_mangle)]
-pub extern "C" fn zimlokur_block_map(
+pub fn zimlokur_block_map(
     text: &[u8],
     words: &[u64],
     directory: &[u64],
@@ -182,9 +175,7 @@ fn report(told: Told, place: &mut u64, answer: &mut u64) -> u64
 }
 
 // May a class fire what the n-th call to `@fire` names? Returns 0 with the answer, or the number of the question that refuses the table.
-// The borrow checker covers no function that is lent a slice of structs: this one is proved by a walk of its code, and only calls others.
-#[unsafe(no_mangle)]
-pub extern "C" fn zimlokur_channel(
+pub fn zimlokur_channel(
     rules: &[Rule],
     account_class: u64,
     n: u64,
