@@ -1,10 +1,9 @@
-use mathlib.Core.Path.{◌≡◌, refl, sym, ◌∙◌}
-use Prim.Native.Nat.{◌+◌, ◌-◌, ◌%◌, ◌≤◌}
+use mathlib.Core.Path.{refl, sym, ◌∙◌}
+use Prim.Native.Nat.{◌+◌, ◌-◌, ◌%◌}
 use native.Mathlib.Omega.{arith}
-use lib.ListN.{length, drop, length-set}
-use Rattle.buffer.specs.Decimal.{digits_in, decimal}
+use lib.ListN.{length-set}
+use Rattle.buffer.specs.Decimal.{decimal}
 use Rattle.buffer.proofs.Decimals.{step_last, step_more, step_none}
-use borrow.Author.Rules.{rules}
 use Rattle.buffer.proofs.digits_of.Goals as goal
 
 pub loop-from-init : goal.loop-from-init

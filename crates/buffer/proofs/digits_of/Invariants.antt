@@ -1,11 +1,8 @@
 -- The digits that stand, and those of what is left of the number in front of them, are the number's.
-use mathlib.Core.Path.{◌≡◌, refl, sym, ◌∙◌}
-use Prim.Native.Nat.{◌+◌, ◌-◌, ◌%◌, ◌≤◌}
-use native.Mathlib.Omega.{arith}
-use lib.ListN.{length, drop, length-set}
+use mathlib.Core.Path.{◌≡◌}
+use Prim.Native.Nat.{◌≤◌}
+use lib.ListN.{length, drop}
 use Rattle.buffer.specs.Decimal.{digits_in, decimal}
-use Rattle.buffer.proofs.Decimals.{step_last, step_more, step_none}
-use borrow.Author.Rules.{rules}
 use Rattle.buffer.proofs.digits_of.Given as goal
 
 abbrev pub invariant-loop-from : goal.invariant-loop-from

@@ -3,7 +3,6 @@ use mathlib.Core.Path.{sym, ◌∙◌}
 use native.Mathlib.Omega.{arith}
 use lib.Seq.{set_out}
 use Rattle.buffer.specs.Laws.{below, over, with_below, with_over}
-use borrow.Author.Rules.{rules}
 use Rattle.buffer.proofs.put.Goals as goal
 
 pub returns-then-at-out : goal.returns-then-at-out

@@ -1,5 +1,4 @@
 -- Its digits stand from their first on.
-use borrow.Author.Rules.{rules}
 use Rattle.buffer.proofs.put_decimal.Goals as goal
 
 pub returns : goal.returns

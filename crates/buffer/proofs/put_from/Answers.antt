@@ -1,10 +1,9 @@
 use mathlib.Core.Path.{◌≡◌, refl, ◌∙◌}
 use mathlib.Core.List.{[]}
-use Prim.Native.Nat.{◌-◌, ◌≤◌}
+use Prim.Native.Nat.{◌≤◌}
 use lib.ListN.{length, drop, drop_of_length-le}
 use Rattle.buffer.specs.Stored.{stored, placed}
 use Rattle.program.specs.Lists.{drop_next}
-use borrow.Author.Rules.{rules}
 use Rattle.buffer.proofs.put_from.Goals as goal
 
 pub loop-i-init : goal.loop-i-init

@@ -1,11 +1,8 @@
 -- What is still to be stored, from where the code has come to, gives what all gives from the start.
-use mathlib.Core.Path.{◌≡◌, refl, ◌∙◌}
-use mathlib.Core.List.{[]}
-use Prim.Native.Nat.{◌-◌, ◌≤◌}
-use lib.ListN.{length, drop, drop_of_length-le}
+use mathlib.Core.Path.{◌≡◌}
+use Prim.Native.Nat.{◌-◌}
+use lib.ListN.{length, drop}
 use Rattle.buffer.specs.Stored.{stored, placed}
-use Rattle.program.specs.Lists.{drop_next}
-use borrow.Author.Rules.{rules}
 use Rattle.buffer.proofs.put_from.Given as goal
 
 abbrev pub invariant-loop-i : goal.invariant-loop-i

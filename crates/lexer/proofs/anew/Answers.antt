@@ -1,5 +1,4 @@
 -- Case by case, the answer is made of its own parts.
-use borrow.Author.Rules.{rules}
 use Rattle.lexer.proofs.anew.Goals as goal
 
 pub returns-in-Ok : goal.returns-in-Ok

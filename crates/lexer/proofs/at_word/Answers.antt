@@ -1,10 +1,5 @@
-use mathlib.Core.Path.{◌≡◌, refl, sym, ◌∙◌}
-use Prim.Native.Nat.{◌-◌}
-use lib.ListN.{length, drop}
-use Rattle.program.specs.Prog.{lead_word}
-use Rattle.grammar.specs.Lexer.{same_word}
+use mathlib.Core.Path.{sym, ◌∙◌}
 use Rattle.lexer.proofs.Scan.{word_ends, word_more, word_other, word_short, word_end_in, word_end_out}
-use borrow.Author.Rules.{rules}
 use Rattle.lexer.proofs.at_word.Goals as goal
 
 pub returns-then-text-i : goal.returns-then-text-i

@@ -1,12 +1,10 @@
 -- The invariant: the keyword is the word at `at` if what is left of it is the word at i, for the bytes before are the same and belong to a word.
 -- Behind the keyword a word's byte says that the text's word is longer.
-use mathlib.Core.Path.{◌≡◌, refl, sym, ◌∙◌}
+use mathlib.Core.Path.{◌≡◌}
 use Prim.Native.Nat.{◌-◌}
 use lib.ListN.{length, drop}
 use Rattle.program.specs.Prog.{lead_word}
 use Rattle.grammar.specs.Lexer.{same_word}
-use Rattle.lexer.proofs.Scan.{word_ends, word_more, word_other, word_short, word_end_in, word_end_out}
-use borrow.Author.Rules.{rules}
 use Rattle.lexer.proofs.at_word.Given as goal
 
 abbrev pub invariant-loop-j : goal.invariant-loop-j

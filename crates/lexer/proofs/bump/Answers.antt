@@ -1,7 +1,6 @@
 -- The test is that of `bumped`.
 use borrow.Author.Tests.{lt-ltb, le-ltb}
 use Rattle.lexer.specs.Step.{bumped}
-use borrow.Author.Rules.{rules}
 use Rattle.lexer.proofs.bump.Goals as goal
 
 pub returns-then-w-lt-HALF_LIMIT : goal.returns-then-w-lt-HALF_LIMIT

@@ -1,10 +1,6 @@
-use mathlib.Core.Path.{◌≡◌, refl, sym, ◌∙◌}
-use Prim.Native.Nat.{◌+◌, ◌-◌}
-use lib.ListN.{length, drop}
-use Rattle.program.specs.Prog.{scan_len}
+use mathlib.Core.Path.{sym, ◌∙◌}
 use Rattle.grammar.specs.Lexer.{space_step}
 use Rattle.lexer.proofs.Scan.{scan_out, scan_stop, scan_more}
-use borrow.Author.Rules.{rules}
 use Rattle.lexer.proofs.comment_end.Goals as goal
 
 pub returns-then-s-eq0 : goal.returns-then-s-eq0

@@ -1,11 +1,9 @@
 -- The invariant: what the automaton passes from `at` on ends where it ends from i on in state q.
-use mathlib.Core.Path.{◌≡◌, refl, sym, ◌∙◌}
+use mathlib.Core.Path.{◌≡◌}
 use Prim.Native.Nat.{◌+◌, ◌-◌}
 use lib.ListN.{length, drop}
 use Rattle.program.specs.Prog.{scan_len}
 use Rattle.grammar.specs.Lexer.{space_step}
-use Rattle.lexer.proofs.Scan.{scan_out, scan_stop, scan_more}
-use borrow.Author.Rules.{rules}
 use Rattle.lexer.proofs.comment_end.Given as goal
 
 abbrev pub invariant-loop-i : goal.invariant-loop-i

@@ -2,7 +2,6 @@
 use Rattle.grammar.specs.Lexer.{eat_ws}
 use Rattle.program.specs.Prog.{run}
 use Rattle.lexer.proofs.Laws.{given, kept}
-use borrow.Author.Rules.{rules}
 use Rattle.lexer.proofs.eat_ws.Goals as goal
 
 pub returns-in-Ok : goal.returns-in-Ok

@@ -1,7 +1,6 @@
 -- The program's steps are the code's: white space, the test, then the keyword passed or the refusal.
 use Rattle.grammar.specs.Lexer.{expect_keyword}
 use Rattle.lexer.proofs.Laws.{g_then, g_word_yes, g_word_no, g_done, g_fail}
-use borrow.Author.Rules.{rules}
 use Rattle.lexer.proofs.expect_keyword.Goals as goal
 
 pub returns-then-word : goal.returns-then-word

@@ -1,7 +1,6 @@
 -- The program's steps are the code's: white space, the test, then the byte passed or the refusal.
 use Rattle.grammar.specs.Lexer.{expect_token}
 use Rattle.lexer.proofs.Laws.{g_then, g_byte_yes, g_byte_no, g_done, g_fail}
-use borrow.Author.Rules.{rules}
 use Rattle.lexer.proofs.expect_token.Goals as goal
 
 pub returns-then-looks : goal.returns-then-looks

@@ -1,5 +1,4 @@
 -- At a cursor by `at_byte`; a refusal looks at nothing.
-use borrow.Author.Rules.{rules}
 use Rattle.lexer.proofs.looks.Goals as goal
 
 pub returns-in-Ok : goal.returns-in-Ok

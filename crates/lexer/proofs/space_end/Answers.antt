@@ -1,11 +1,7 @@
-use mathlib.Core.Path.{◌≡◌, refl, sym, ◌∙◌}
-use Prim.Native.Nat.{◌+◌, ◌-◌}
-use lib.ListN.{length, drop}
-use Rattle.program.specs.Prog.{scan_len}
+use mathlib.Core.Path.{sym, ◌∙◌}
 use Rattle.grammar.specs.Lexer.{space_step}
 use Rattle.lexer.proofs.Scan.{scan_out}
 use Rattle.lexer.proofs.Scan.{space_more, space_stop}
-use borrow.Author.Rules.{rules}
 use Rattle.lexer.proofs.space_end.Goals as goal
 
 pub returns-then-b-eq59 : goal.returns-then-b-eq59

@@ -1,12 +1,9 @@
 -- The invariant: white space at `at` ends where white space at i ends; at a `;` `comment_end` goes on.
-use mathlib.Core.Path.{◌≡◌, refl, sym, ◌∙◌}
+use mathlib.Core.Path.{◌≡◌}
 use Prim.Native.Nat.{◌+◌, ◌-◌}
 use lib.ListN.{length, drop}
 use Rattle.program.specs.Prog.{scan_len}
 use Rattle.grammar.specs.Lexer.{space_step}
-use Rattle.lexer.proofs.Scan.{scan_out}
-use Rattle.lexer.proofs.Scan.{space_more, space_stop}
-use borrow.Author.Rules.{rules}
 use Rattle.lexer.proofs.space_end.Given as goal
 
 abbrev pub invariant-loop-i : goal.invariant-loop-i

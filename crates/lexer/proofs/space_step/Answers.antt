@@ -2,7 +2,6 @@
 use borrow.Author.Tests.{eq-eqb, ne_eqb}
 use Rattle.program.specs.Class.{is_space}
 use Rattle.grammar.specs.Lexer.{space_step}
-use borrow.Author.Rules.{rules}
 use Rattle.lexer.proofs.space_step.Goals as goal
 
 pub returns-then-b-eq59 : goal.returns-then-b-eq59

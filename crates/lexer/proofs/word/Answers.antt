@@ -1,5 +1,4 @@
 -- At a cursor by `at_word`; a refusal has no word.
-use borrow.Author.Rules.{rules}
 use Rattle.lexer.proofs.word.Goals as goal
 
 pub returns-in-Ok : goal.returns-in-Ok

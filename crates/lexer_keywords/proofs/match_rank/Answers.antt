@@ -1,7 +1,6 @@
 -- The word at the cursor ends where `word_end` says, so its rank is that of the bytes up to there.
 use mathlib.Core.Path.{refl, sym}
 use Rattle.lexer_keywords.proofs.Ranks.{ranks_in, ranks_out, cut_length}
-use borrow.Author.Rules.{rules}
 use Rattle.lexer_keywords.proofs.match_rank.Goals as goal
 
 pub returns-then-r-lens : goal.returns-then-r-lens

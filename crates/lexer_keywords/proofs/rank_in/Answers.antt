@@ -1,11 +1,7 @@
 use mathlib.Core.Path.{◌≡◌, sym, ◌∙◌}
-use Prim.Native.Nat.{◌+◌, ◌-◌, ◌≤◌}
+use Prim.Native.Nat.{◌+◌, ◌-◌}
 use native.Mathlib.Omega.{arith}
-use lib.ListN.{length, drop}
-use Rattle.grammar.specs.Lexer.{rank}
-use Rattle.lexer.specs.Table.{cut}
 use Rattle.lexer_keywords.proofs.Ranks.{rank_hit, rank_miss, rank_out}
-use borrow.Author.Rules.{rules}
 use Rattle.lexer_keywords.proofs.rank_in.Goals as goal
 
 pub returns-then-same : goal.returns-then-same

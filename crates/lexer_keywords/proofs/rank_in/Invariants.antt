@@ -1,12 +1,9 @@
 -- The invariant: the rank in the table is k and the rank in what is left of it; `cut` cuts one word off in each turn.
-use mathlib.Core.Path.{◌≡◌, sym, ◌∙◌}
+use mathlib.Core.Path.{◌≡◌}
 use Prim.Native.Nat.{◌+◌, ◌-◌, ◌≤◌}
-use native.Mathlib.Omega.{arith}
 use lib.ListN.{length, drop}
 use Rattle.grammar.specs.Lexer.{rank}
 use Rattle.lexer.specs.Table.{cut}
-use Rattle.lexer_keywords.proofs.Ranks.{rank_hit, rank_miss, rank_out}
-use borrow.Author.Rules.{rules}
 use Rattle.lexer_keywords.proofs.rank_in.Given as goal
 
 abbrev pub invariant-loop-k : goal.invariant-loop-k

@@ -1,7 +1,4 @@
-use mathlib.Core.Path.{◌≡◌, refl, sym, ◌∙◌}
-use Prim.Native.Nat.{◌-◌}
-use lib.ListN.{length, drop}
-use Rattle.grammar.specs.Lexer.{same_word}
+use mathlib.Core.Path.{sym, ◌∙◌}
 use Rattle.lexer_keywords.proofs.Ranks.{same_long, same_other, same_more, same_end}
 use borrow.Author.Rules.{rules}
 use Rattle.lexer_keywords.proofs.same.Goals as goal

@@ -1,10 +1,8 @@
 -- Words of different lengths differ; the invariant: they are the same if what is left of them at i is.
-use mathlib.Core.Path.{◌≡◌, refl, sym, ◌∙◌}
+use mathlib.Core.Path.{◌≡◌}
 use Prim.Native.Nat.{◌-◌}
 use lib.ListN.{length, drop}
 use Rattle.grammar.specs.Lexer.{same_word}
-use Rattle.lexer_keywords.proofs.Ranks.{same_long, same_other, same_more, same_end}
-use borrow.Author.Rules.{rules}
 use Rattle.lexer_keywords.proofs.same.Given as goal
 
 abbrev pub invariant-loop-i : goal.invariant-loop-i

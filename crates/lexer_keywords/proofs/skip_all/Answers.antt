@@ -1,11 +1,8 @@
 use native.Mathlib.Omega.{arith}
 use Rattle.grammar.specs.Lexer.{skip_all}
-use Rattle.records.specs.Limits.{turns}
 use Rattle.lexer.specs.Table.{cut}
-use Rattle.lexer.specs.Reads.{Comes}
 use Rattle.lexer.proofs.Laws.{g_then, g_done, g_stay, g_on, g_more, g_no_more}
 use Rattle.lexer_keywords.proofs.Ranks.{g_rank_yes, g_rank_no, cut_length}
-use borrow.Author.Rules.{rules}
 use Rattle.lexer_keywords.proofs.skip_all.Goals as goal
 
 pub loop-left-init : goal.loop-left-init

@@ -1,12 +1,8 @@
 -- The invariant: the program comes to itself with `left` turns to go; a keyword takes one of them, and no text has as many.
-use native.Mathlib.Omega.{arith}
 use Rattle.grammar.specs.Lexer.{skip_all}
 use Rattle.records.specs.Limits.{turns}
 use Rattle.lexer.specs.Table.{cut}
 use Rattle.lexer.specs.Reads.{Comes}
-use Rattle.lexer.proofs.Laws.{g_then, g_done, g_stay, g_on, g_more, g_no_more}
-use Rattle.lexer_keywords.proofs.Ranks.{g_rank_yes, g_rank_no, cut_length}
-use borrow.Author.Rules.{rules}
 use Rattle.lexer_keywords.proofs.skip_all.Given as goal
 
 abbrev pub invariant-loop-left : goal.invariant-loop-left

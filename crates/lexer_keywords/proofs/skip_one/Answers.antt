@@ -2,7 +2,6 @@
 use Rattle.grammar.specs.Lexer.{skip_one}
 use Rattle.lexer.proofs.Laws.{g_then, g_done}
 use Rattle.lexer_keywords.proofs.Ranks.{g_rank_any}
-use borrow.Author.Rules.{rules}
 use Rattle.lexer_keywords.proofs.skip_one.Goals as goal
 
 pub returns : goal.returns

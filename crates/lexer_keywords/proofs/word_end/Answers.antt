@@ -1,9 +1,5 @@
-use mathlib.Core.Path.{◌≡◌, refl, sym, ◌∙◌}
-use Prim.Native.Nat.{◌+◌, ◌-◌}
-use lib.ListN.{length, drop}
-use Rattle.program.specs.Prog.{lead_word}
+use mathlib.Core.Path.{sym, ◌∙◌}
 use Rattle.lexer_keywords.proofs.Ranks.{lead_more, lead_stop, lead_out}
-use borrow.Author.Rules.{rules}
 use Rattle.lexer_keywords.proofs.word_end.Goals as goal
 
 pub returns-then-class-gt-WORD : goal.returns-then-class-gt-WORD

@@ -1,10 +1,8 @@
 -- The invariant: the word at `at` ends where the word at i ends.
-use mathlib.Core.Path.{◌≡◌, refl, sym, ◌∙◌}
+use mathlib.Core.Path.{◌≡◌}
 use Prim.Native.Nat.{◌+◌, ◌-◌}
 use lib.ListN.{length, drop}
 use Rattle.program.specs.Prog.{lead_word}
-use Rattle.lexer_keywords.proofs.Ranks.{lead_more, lead_stop, lead_out}
-use borrow.Author.Rules.{rules}
 use Rattle.lexer_keywords.proofs.word_end.Given as goal
 
 abbrev pub invariant-loop-i : goal.invariant-loop-i

@@ -1,11 +1,7 @@
-use mathlib.Core.Path.{◌≡◌, refl, sym, ◌∙◌}
-use Prim.Native.Nat.{◌+◌, ◌-◌}
-use lib.ListN.{length, drop}
-use Rattle.program.specs.Prog.{scan_len}
+use mathlib.Core.Path.{sym, ◌∙◌}
 use Rattle.grammar.specs.Lexer.{name_step}
 use Rattle.lexer.proofs.Scan.{scan_out}
 use Rattle.lexer_names.proofs.Strings.{name_more, name_stop}
-use borrow.Author.Rules.{rules}
 use Rattle.lexer_names.proofs.name_end.Goals as goal
 
 pub returns-then-class-gt-NAME : goal.returns-then-class-gt-NAME

@@ -1,12 +1,9 @@
 -- The invariant: the name at `at` ends where the name at i ends.
-use mathlib.Core.Path.{◌≡◌, refl, sym, ◌∙◌}
+use mathlib.Core.Path.{◌≡◌}
 use Prim.Native.Nat.{◌+◌, ◌-◌}
 use lib.ListN.{length, drop}
 use Rattle.program.specs.Prog.{scan_len}
 use Rattle.grammar.specs.Lexer.{name_step}
-use Rattle.lexer.proofs.Scan.{scan_out}
-use Rattle.lexer_names.proofs.Strings.{name_more, name_stop}
-use borrow.Author.Rules.{rules}
 use Rattle.lexer_names.proofs.name_end.Given as goal
 
 abbrev pub invariant-loop-i : goal.invariant-loop-i

@@ -2,7 +2,6 @@
 use mathlib.Core.Path.{sym, ◌∙◌}
 use Rattle.lexer.proofs.Laws.{g_fail}
 use Rattle.lexer_names.proofs.Strings.{name_none, name_some}
-use borrow.Author.Rules.{rules}
 use Rattle.lexer_names.proofs.name_of.Goals as goal
 
 pub returns-then-x : goal.returns-then-x

@@ -1,7 +1,6 @@
 -- The calls are the definition's steps in the same order.
 use Rattle.grammar.specs.Lexer.{name_word}
 use Rattle.lexer.proofs.Laws.{g_place, g_then}
-use borrow.Author.Rules.{rules}
 use Rattle.lexer_names.proofs.name_word.Goals as goal
 
 pub returns : goal.returns

@@ -1,6 +1,5 @@
 -- The sigil is `%`.
 use Rattle.grammar.specs.Lexer.{parse_local_name}
-use borrow.Author.Rules.{rules}
 use Rattle.lexer_names.proofs.parse_local_name.Goals as goal
 
 pub returns : goal.returns

@@ -2,7 +2,6 @@
 use borrow.Author.Tests.{eq-eqb, ne_eqb, lt-ltb, le-ltb}
 use Rattle.program.specs.Class.{is_hex}
 use Rattle.grammar.specs.Lexer.{quote_step}
-use borrow.Author.Rules.{rules}
 use Rattle.lexer_names.proofs.quote_step.Goals as goal
 
 pub returns-then-b-eq34 : goal.returns-then-b-eq34

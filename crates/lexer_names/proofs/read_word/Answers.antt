@@ -3,7 +3,6 @@ use native.Mathlib.Omega.{arith}
 use mathlib.Core.Path.{sym, ◌∙◌}
 use Rattle.lexer.proofs.Scan.{byte_inside}
 use Rattle.lexer_names.proofs.Strings.{word_plain, word_none, word_kept, word_quoted, quote_bad, quote_open}
-use borrow.Author.Rules.{rules}
 use Rattle.lexer_names.proofs.read_word.Goals as goal
 
 pub overflow_add-from : goal.overflow_add-from

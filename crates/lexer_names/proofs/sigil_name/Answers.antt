@@ -1,6 +1,5 @@
 -- White space and the sigil, then `name_word`; else the refusal.
 use Rattle.lexer.proofs.Laws.{g_then, g_byte_yes, g_byte_no, g_fail}
-use borrow.Author.Rules.{rules}
 use Rattle.lexer_names.proofs.sigil_name.Goals as goal
 
 pub returns-then-looks : goal.returns-then-looks

@@ -4,7 +4,6 @@ use Prim.Native.Nat.{◌-◌}
 use lib.ListN.{length}
 use native.Mathlib.Omega.{arith}
 use Rattle.lexer_spelling.proofs.Letters.{inner_none}
-use borrow.Author.Rules.{rules}
 use Rattle.lexer_spelling.proofs.between.Goals as goal
 
 pub returns-then-n-ge2 : goal.returns-then-n-ge2

@@ -1,6 +1,5 @@
 -- The first byte decides.
 use Rattle.lexer_spelling.proofs.Letters.{quoted_in, quoted_out}
-use borrow.Author.Rules.{rules}
 use Rattle.lexer_spelling.proofs.is_quoted.Goals as goal
 
 pub returns-then-raw-gt0 : goal.returns-then-raw-gt0

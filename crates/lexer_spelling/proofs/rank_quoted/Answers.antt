@@ -1,14 +1,9 @@
 use mathlib.Core.Path.{◌≡◌, sym, ◌∙◌}
-use mathlib.Core.Bool.{true}
-use Prim.Native.Nat.{◌+◌, ◌-◌, ◌≤◌}
+use Prim.Native.Nat.{◌+◌, ◌-◌}
 use native.Mathlib.Omega.{arith}
-use lib.ListN.{length, drop, take}
-use Rattle.grammar.specs.Lexer.{rank}
-use Rattle.lexer.specs.Table.{cut}
-use Rattle.lexer_names.specs.Names.{spelled_of}
+use lib.ListN.{drop, take}
 use Rattle.lexer_keywords.proofs.Ranks.{rank_hit, rank_miss, rank_out}
 use Rattle.lexer_spelling.proofs.Letters.{as_it_is}
-use borrow.Author.Rules.{rules}
 use Rattle.lexer_spelling.proofs.rank_quoted.Goals as goal
 
 pub returns-then-same_spelling : goal.returns-then-same_spelling

@@ -1,15 +1,11 @@
 -- As `rank_in`, with the spelling for the word.
-use mathlib.Core.Path.{◌≡◌, sym, ◌∙◌}
+use mathlib.Core.Path.{◌≡◌}
 use mathlib.Core.Bool.{true}
 use Prim.Native.Nat.{◌+◌, ◌-◌, ◌≤◌}
-use native.Mathlib.Omega.{arith}
-use lib.ListN.{length, drop, take}
+use lib.ListN.{length, drop}
 use Rattle.grammar.specs.Lexer.{rank}
 use Rattle.lexer.specs.Table.{cut}
 use Rattle.lexer_names.specs.Names.{spelled_of}
-use Rattle.lexer_keywords.proofs.Ranks.{rank_hit, rank_miss, rank_out}
-use Rattle.lexer_spelling.proofs.Letters.{as_it_is}
-use borrow.Author.Rules.{rules}
 use Rattle.lexer_spelling.proofs.rank_quoted.Given as goal
 
 abbrev pub invariant-loop-k : goal.invariant-loop-k

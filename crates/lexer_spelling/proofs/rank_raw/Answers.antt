@@ -1,7 +1,6 @@
 -- A quoted word by its spelling, any other as it stands.
 use mathlib.Core.Path.{sym, ◌∙◌}
 use Rattle.lexer_spelling.proofs.Letters.{spelled_quoted, spelled_plain}
-use borrow.Author.Rules.{rules}
 use Rattle.lexer_spelling.proofs.rank_raw.Goals as goal
 
 pub returns-then-is_quoted : goal.returns-then-is_quoted

@@ -2,7 +2,6 @@
 use mathlib.Core.Path.{sym, ◌∙◌}
 use Rattle.grammar.specs.Lexer.{same_name}
 use Rattle.lexer_spelling.proofs.Letters.{spelled_quoted, spelled_plain, as_it_is}
-use borrow.Author.Rules.{rules}
 use Rattle.lexer_spelling.proofs.same_name.Goals as goal
 
 pub returns-then-is_quoted-2 : goal.returns-then-is_quoted-2

@@ -1,11 +1,6 @@
-use mathlib.Core.Path.{◌≡◌, refl, sym, ◌∙◌}
+use mathlib.Core.Path.{sym, ◌∙◌}
 use native.Mathlib.Omega.{arith}
-use Prim.Native.Nat.{◌-◌}
-use lib.ListN.{length, drop}
-use Rattle.grammar.specs.Lexer.{same_word}
-use Rattle.lexer_names.specs.Names.{spelled_of}
 use Rattle.lexer_spelling.proofs.Letters.{both_more, both_other, one_more, other_more, neither, letter_out}
-use borrow.Author.Rules.{rules}
 use Rattle.lexer_spelling.proofs.same_spelling.Goals as goal
 
 pub loop-i-smaller : goal.loop-i-smaller

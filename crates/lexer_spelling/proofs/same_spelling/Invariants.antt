@@ -1,12 +1,9 @@
 -- The invariant: the spellings are the same if what is left of them at i and j is; each turn takes a letter of both.
-use mathlib.Core.Path.{◌≡◌, refl, sym, ◌∙◌}
-use native.Mathlib.Omega.{arith}
+use mathlib.Core.Path.{◌≡◌}
 use Prim.Native.Nat.{◌-◌}
 use lib.ListN.{length, drop}
 use Rattle.grammar.specs.Lexer.{same_word}
 use Rattle.lexer_names.specs.Names.{spelled_of}
-use Rattle.lexer_spelling.proofs.Letters.{both_more, both_other, one_more, other_more, neither, letter_out}
-use borrow.Author.Rules.{rules}
 use Rattle.lexer_spelling.proofs.same_spelling.Given as goal
 
 abbrev pub invariant-loop-i : goal.invariant-loop-i

@@ -1,7 +1,6 @@
 -- A part of the text that ends behind it is the part up to its end.
 use mathlib.Core.Path.{◌∙◌}
 use Rattle.lexer_keywords.proofs.Ranks.{part_is, part_none}
-use borrow.Author.Rules.{rules}
 use Rattle.lexer_spelling.proofs.spells.Goals as goal
 
 pub returns-then-from-end : goal.returns-then-from-end

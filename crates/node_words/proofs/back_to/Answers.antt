@@ -1,5 +1,4 @@
 -- By the answer so far.
-use borrow.Author.Rules.{rules}
 use Rattle.node_words.proofs.back_to.Goals as goal
 
 pub returns-in-Refused : goal.returns-in-Refused

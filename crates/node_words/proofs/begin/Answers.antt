@@ -1,6 +1,5 @@
 -- Two words pushed, one behind the other.
 use mathlib.Core.Path.{◌∙◌, ap}
-use borrow.Author.Rules.{rules}
 use Rattle.node_words.specs.Writes.{pushed}
 use Rattle.node_words.proofs.begin.Goals as goal
 

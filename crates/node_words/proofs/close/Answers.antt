@@ -1,6 +1,5 @@
 -- Where both are cursors the header goes to the first one's word.
 use mathlib.Core.Path.{refl}
-use borrow.Author.Rules.{rules}
 use Rattle.node_words.proofs.close.Goals as goal
 
 pub returns-in-Ok-p : goal.returns-in-Ok-p

@@ -1,6 +1,5 @@
 -- The fields do not overlap, so the sum does not wrap.
 use borrow.Author.Tests.{lt-ltb, le-ltb}
-use borrow.Author.Rules.{rules}
 use Rattle.node_words.proofs.header_of.Goals as goal
 
 pub returns-then-size-lt-HALF_LIMIT : goal.returns-then-size-lt-HALF_LIMIT

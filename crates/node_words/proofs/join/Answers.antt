@@ -1,5 +1,4 @@
 -- By the two answers.
-use borrow.Author.Rules.{rules}
 use Rattle.node_words.proofs.join.Goals as goal
 
 pub returns-in-Ok-q : goal.returns-in-Ok-q

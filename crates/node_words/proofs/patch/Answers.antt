@@ -1,6 +1,5 @@
 -- Where both are cursors the word goes to its place behind the first one's.
 use mathlib.Core.Path.{refl}
-use borrow.Author.Rules.{rules}
 use Rattle.node_words.proofs.patch.Goals as goal
 
 pub returns-in-Ok-p : goal.returns-in-Ok-p

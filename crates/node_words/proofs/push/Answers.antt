@@ -1,6 +1,5 @@
 -- By the answer so far.
 use mathlib.Core.Path.{refl}
-use borrow.Author.Rules.{rules}
 use Rattle.node_words.proofs.push.Goals as goal
 
 pub returns-in-Ok : goal.returns-in-Ok

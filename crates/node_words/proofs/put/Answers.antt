@@ -1,7 +1,6 @@
 -- To store behind the end changes nothing.
 use mathlib.Core.Path.{sym}
 use lib.Seq.{set_out}
-use borrow.Author.Rules.{rules}
 use Rattle.node_words.proofs.put.Goals as goal
 
 pub returns : goal.returns

@@ -2,7 +2,6 @@
 use mathlib.Core.Path.{sym}
 use native.Mathlib.Omega.{arith}
 use lib.Seq.{set_out}
-use borrow.Author.Rules.{rules}
 use Rattle.node_words.proofs.put_at.Goals as goal
 
 pub returns-else-k-words : goal.returns-else-k-words

@@ -1,6 +1,5 @@
 -- Where both are cursors the word goes to the first one's place.
 use mathlib.Core.Path.{refl}
-use borrow.Author.Rules.{rules}
 use Rattle.node_words.proofs.replace.Goals as goal
 
 pub returns-in-Ok-p : goal.returns-in-Ok-p

@@ -1,5 +1,4 @@
 -- By the answer so far.
-use borrow.Author.Rules.{rules}
 use Rattle.node_words.proofs.restart.Goals as goal
 
 pub returns-in-Ok : goal.returns-in-Ok

@@ -1,7 +1,6 @@
 -- Ten times the value and the digit fit 64 bits exactly where the code's two tests say so.
 use native.Mathlib.Omega.{arith}
 use Rattle.number_bits.proofs.Shifts.{shift_fits, shift_over, shift_still}
-use borrow.Author.Rules.{rules}
 use Rattle.number_bits.proofs.shift.Goals as goal
 
 pub returns-then-y-x : goal.returns-then-y-x

@@ -1,6 +1,5 @@
 -- A `_` changes nothing; any other byte is a digit more.
 use Rattle.number_counts.proofs.Count.{add_none, add_some}
-use borrow.Author.Rules.{rules}
 use Rattle.number_counts.proofs.add_digit.Goals as goal
 
 pub returns-then-b-eq95 : goal.returns-then-b-eq95

@@ -2,7 +2,6 @@
 use borrow.Author.Tests.{eq-eqb, ne_eqb, lt-ltb, le-ltb}
 use Rattle.program.specs.Class.{is_digit}
 use Rattle.grammar.specs.Numbers.{digit_step}
-use borrow.Author.Rules.{rules}
 use Rattle.number_counts.proofs.digit_step.Goals as goal
 
 pub returns-then-class-lt-DIGIT : goal.returns-then-class-lt-DIGIT

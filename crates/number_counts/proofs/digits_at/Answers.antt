@@ -1,8 +1,5 @@
 use mathlib.Core.Path.{sym, ◌∙◌}
-use Prim.Native.Nat.{◌-◌}
-use lib.ListN.{length}
-use Rattle.number_counts.proofs.Count.{Counts, count_none, count_more, count_stop, count_out}
-use borrow.Author.Rules.{rules}
+use Rattle.number_counts.proofs.Count.{count_none, count_more, count_stop, count_out}
 use Rattle.number_counts.proofs.digits_at.Goals as goal
 
 pub loop-i-init : goal.loop-i-init

@@ -5,7 +5,6 @@ use mathlib.Core.Option.{none}
 use mathlib.Core.Path.{◌≡◌, sym, ◌∙◌}
 use Prim.Native.Nat.{ℕ}
 use lib.Dec.{lit<}
-use borrow.Author.Rules.{rules}
 use borrow.Author.Tests.{eq-eqb, ne_eqb}
 use Rattle.number_decimals.specs.Decimals.{powered_bits, float_in, exponent_bits, bits_of}
 use Rattle.number_decimals.specs.declared.mantissa.Mantissa.{Mantissa}

@@ -5,7 +5,6 @@ use Prim.Native.Nat.{ℕ, ◌+◌, ◌-◌, ◌*◌, ◌/◌, ◌%◌, ◌^◌, 
 use native.Mathlib.Nat.{mod-lt, div-le_self, div-add-mod', lt_of_le_of_lt, lt_of_lt_of_le, le_of_lt}
 use native.Mathlib.Omega.{arith}
 use lib.Dec.{lit≤}
-use borrow.Author.Rules.{rules}
 use Rattle.grammar.specs.Numbers.{rounded, nearest}
 use Rattle.number_decimals.specs.Decimals.{Scaled}
 use Rattle.number_decimals.specs.declared.Significand.{Significand}

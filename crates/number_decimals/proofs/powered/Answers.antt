@@ -2,7 +2,6 @@
 -- Assumes nothing.
 use mathlib.Core.Path.{◌∙◌}
 use native.Mathlib.Omega.{arith}
-use borrow.Author.Rules.{rules}
 use Rattle.number_decimals.proofs.Scale.{counted_le, far_off, down_bits, up_bits, none_are}
 use Rattle.number_decimals.proofs.powered.Goals as goal
 

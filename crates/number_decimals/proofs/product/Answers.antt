@@ -2,7 +2,6 @@
 -- Assumes nothing.
 use Prim.Native.Nat.{◌*◌, ◌/◌, ◌%◌, ◌^◌, ◌<◌}
 use native.Mathlib.Omega.{arith}
-use borrow.Author.Rules.{rules}
 use Rattle.number_decimals.proofs.Columns.{P, small, high, low, w, product_is}
 use Rattle.number_decimals.proofs.product.Goals as goal
 

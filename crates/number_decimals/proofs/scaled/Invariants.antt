@@ -1,12 +1,8 @@
 -- Each turn gives a bit more of the quotient. The invariant: q times d and what is left are the number with n more bits. While q is below 2^52,
 -- those are below 2^104, and so n is below 104.
 -- Assumes nothing.
-use mathlib.Core.Path.{◌≡◌, sym}
+use mathlib.Core.Path.{◌≡◌}
 use Prim.Native.Nat.{◌+◌, ◌-◌, ◌*◌, ◌^◌, ◌<◌, ◌≤◌}
-use native.Mathlib.Nat.{mul-one}
-use native.Mathlib.Omega.{arith}
-use borrow.Author.Rules.{rules}
-use Rattle.number_decimals.proofs.Bits.{few_bits, next_bit}
 use Rattle.number_decimals.proofs.scaled.Given as goal
 
 abbrev pub invariant-loop-q : goal.invariant-loop-q

@@ -3,7 +3,6 @@
 use mathlib.Core.Option.{some}
 use mathlib.Core.Path.{sym, ap, ◌∙◌}
 use native.Mathlib.Omega.{arith}
-use borrow.Author.Rules.{rules}
 use Rattle.number_decimals.proofs.Scale.{no_digits_lem, no_high, no_low, up_supported, down_supported, bits_are, none_are}
 use Rattle.number_decimals.proofs.scaled_bits.Goals as goal
 

@@ -1,10 +1,8 @@
 -- Without a header or children there is no step; else the payload's length, counted by its kind, gives the place behind it.
 use mathlib.Core.Path.{sym, ◌∙◌}
 use native.Mathlib.Omega.{arith}
-use borrow.Author.Tests.{not-true, not-false}
 use Rattle.trees.specs.Steps.{child_of}
 use Rattle.record_steps.proofs.StepLaws.{within, by_length}
-use borrow.Author.Rules.{rules}
 use Rattle.record_steps.proofs.child.Goals as goal
 
 pub returns-then-not-is_header : goal.returns-then-not-is_header

@@ -2,9 +2,8 @@
 use Prim.Native.Nat.{◌+◌, ◌%◌}
 use native.Mathlib.Omega.{arith}
 use Rattle.records.specs.Limits.{half_limit}
-use borrow.Author.Tests.{lt-ltb, le-ltb, not-true, not-false}
+use borrow.Author.Tests.{lt-ltb, le-ltb}
 use Rattle.trees.specs.Steps.{next_of}
-use borrow.Author.Rules.{rules}
 use Rattle.record_steps.proofs.next.Goals as goal
 
 pub returns-then-not-is_header : goal.returns-then-not-is_header

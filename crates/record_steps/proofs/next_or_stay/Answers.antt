@@ -1,6 +1,5 @@
 use mathlib.Core.Path.{ap, ◌∙◌}
 use Rattle.record_steps.specs.Moves.{place_or}
-use borrow.Author.Rules.{rules}
 use Rattle.record_steps.proofs.next_or_stay.Goals as goal
 
 pub returns : goal.returns

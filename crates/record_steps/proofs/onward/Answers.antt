@@ -1,6 +1,5 @@
 -- The child's answer decides, as in the definition.
 use Rattle.trees.specs.Steps.{step_of}
-use borrow.Author.Rules.{rules}
 use Rattle.record_steps.proofs.onward.Goals as goal
 
 pub returns-in-To : goal.returns-in-To

@@ -1,5 +1,4 @@
 -- Each form of the length is a step over the header and so many words.
-use borrow.Author.Rules.{rules}
 use Rattle.record_steps.proofs.step_behind.Goals as goal
 
 pub returns-in-Words : goal.returns-in-Words

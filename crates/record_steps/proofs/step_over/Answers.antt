@@ -1,7 +1,6 @@
 -- A place that is not inside the array has no header, so that the sum need not be made.
 use native.Mathlib.Omega.{arith}
 use Rattle.record_steps.proofs.StepLaws.{past}
-use borrow.Author.Rules.{rules}
 use Rattle.record_steps.proofs.step_over.Goals as goal
 
 pub returns-else-n-words : goal.returns-else-n-words

@@ -1,6 +1,5 @@
 -- The word is a header where its extent is not 0.
 use Rattle.trees.specs.Steps.{step_to}
-use borrow.Author.Rules.{rules}
 use Rattle.record_steps.proofs.step_to.Goals as goal
 
 pub returns-then-is_header : goal.returns-then-is_header

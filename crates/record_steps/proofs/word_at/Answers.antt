@@ -1,6 +1,5 @@
 use mathlib.Core.Path.{sym}
 use lib.ListN.{get_or-eq_default}
-use borrow.Author.Rules.{rules}
 use Rattle.record_steps.proofs.word_at.Goals as goal
 
 pub returns-else-at-words : goal.returns-else-at-words

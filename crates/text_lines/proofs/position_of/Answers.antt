@@ -1,7 +1,5 @@
 use native.Mathlib.Omega.{arith}
-use Prim.Native.Nat.{◌-◌}
-use Rattle.text_lines.proofs.Columns.{LineAt, line_start, line_feed, line_more, line_end, line_past}
-use borrow.Author.Rules.{rules}
+use Rattle.text_lines.proofs.Columns.{line_start, line_feed, line_more, line_end, line_past}
 use Rattle.text_lines.proofs.position_of.Goals as goal
 use Rattle.text_lines.proofs.position_of.Goals.{then-text-i-eq10, else-text-i-eq10}
 

@@ -1,9 +1,6 @@
 -- The invariant `LineAt`: line and column of i, and what the bytes from i up to the place still add to them.
-use native.Mathlib.Omega.{arith}
-use mathlib.Core.Logic.{⊎_elim}
 use Prim.Native.Nat.{◌-◌}
-use Rattle.text_lines.proofs.Columns.{LineAt, line_start, line_feed, line_more, line_end, line_past}
-use borrow.Author.Rules.{rules}
+use Rattle.text_lines.proofs.Columns.{LineAt}
 use Rattle.text_lines.proofs.position_of.Given as goal
 
 abbrev pub invariant-loop-i : goal.invariant-loop-i

@@ -2,8 +2,6 @@
 use Prim.Native.Nat.{◌-◌}
 use lib.ListN.{length}
 use Rattle.text_whole.specs.Texts.{Shares}
-use Rattle.text_whole.proofs.Compare.{shares_more, older_ends, newer_ends, bytes_differ}
-use borrow.Author.Rules.{rules}
 use Rattle.text_whole.proofs.common.Given as goal
 
 abbrev pub invariant-loop-i : goal.invariant-loop-i

@@ -1,9 +1,5 @@
-use Prim.Native.Nat.{◌-◌}
 use native.Mathlib.Omega.{arith}
-use lib.ListN.{length}
-use Rattle.text_whole.specs.Texts.{Shares}
 use Rattle.text_whole.proofs.Compare.{shares_none, shares_block}
-use borrow.Author.Rules.{rules}
 use Rattle.text_whole.proofs.common_blocks.Goals as goal
 
 pub loop-i-init : goal.loop-i-init

@@ -1,10 +1,7 @@
 -- The invariant: the first i bytes are common; 64 equal bytes are 64 steps of the common prefix.
 use Prim.Native.Nat.{◌-◌}
-use native.Mathlib.Omega.{arith}
 use lib.ListN.{length}
 use Rattle.text_whole.specs.Texts.{Shares}
-use Rattle.text_whole.proofs.Compare.{shares_none, shares_block}
-use borrow.Author.Rules.{rules}
 use Rattle.text_whole.proofs.common_blocks.Given as goal
 
 abbrev pub invariant-loop-i : goal.invariant-loop-i

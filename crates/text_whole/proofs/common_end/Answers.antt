@@ -1,11 +1,7 @@
 use mathlib.Core.Path.{◌∙◌}
-use Prim.Native.Nat.{◌-◌}
 use native.Mathlib.Omega.{arith}
-use lib.ListN.{length}
-use Rattle.text_whole.specs.Texts.{Ends}
 use Rattle.text_whole.proofs.Compare.{ends_more, older_out, newer_out, ends_differ, end_is}
 use Rattle.theorem_refusals.specs.Common.{common_le_older, common_le_newer}
-use borrow.Author.Rules.{rules}
 use Rattle.text_whole.proofs.common_end.Goals as goal
 
 pub end_blocks-c-requires : goal.end_blocks-c-requires

@@ -1,12 +1,7 @@
 -- The invariant: the last c bytes behind a are common; the first that differs from the end, or a, ends the common suffix.
-use mathlib.Core.Path.{◌∙◌}
 use Prim.Native.Nat.{◌-◌}
-use native.Mathlib.Omega.{arith}
 use lib.ListN.{length}
 use Rattle.text_whole.specs.Texts.{Ends}
-use Rattle.text_whole.proofs.Compare.{ends_more, older_out, newer_out, ends_differ, end_is}
-use Rattle.theorem_refusals.specs.Common.{common_le_older, common_le_newer}
-use borrow.Author.Rules.{rules}
 use Rattle.text_whole.proofs.common_end.Given as goal
 
 abbrev pub invariant-loop-c : goal.invariant-loop-c

@@ -1,9 +1,6 @@
 use mathlib.Core.Path.{◌≡◌}
-use Prim.Native.Nat.{◌-◌, ◌≤◌}
 use native.Mathlib.Omega.{arith}
-use Rattle.text_whole.specs.Texts.{Same}
 use Rattle.text_whole.proofs.Compare.{same_none, same_more}
-use borrow.Author.Rules.{rules}
 use Rattle.text_whole.proofs.differ.Goals as goal
 
 pub loop-k-init : goal.loop-k-init

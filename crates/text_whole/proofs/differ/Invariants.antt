@@ -1,10 +1,7 @@
 -- A bit that differs stays in d, so d is 0 only where all bytes so far are the same.
 use mathlib.Core.Path.{◌≡◌}
 use Prim.Native.Nat.{◌-◌, ◌≤◌}
-use native.Mathlib.Omega.{arith}
 use Rattle.text_whole.specs.Texts.{Same}
-use Rattle.text_whole.proofs.Compare.{same_none, same_more}
-use borrow.Author.Rules.{rules}
 use Rattle.text_whole.proofs.differ.Given as goal
 
 abbrev pub invariant-loop-k : goal.invariant-loop-k

@@ -1,9 +1,5 @@
-use Prim.Native.Nat.{◌-◌}
 use native.Mathlib.Omega.{arith}
-use lib.ListN.{length}
-use Rattle.text_whole.specs.Texts.{Ends}
 use Rattle.text_whole.proofs.Compare.{ends_none, ends_block}
-use borrow.Author.Rules.{rules}
 use Rattle.text_whole.proofs.end_blocks.Goals as goal
 
 pub loop-c-init : goal.loop-c-init

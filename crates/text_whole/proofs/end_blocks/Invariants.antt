@@ -1,10 +1,7 @@
 -- The invariant: the last c bytes behind a are common; read backwards, 64 equal bytes are 64 steps of a common prefix.
 use Prim.Native.Nat.{◌-◌}
-use native.Mathlib.Omega.{arith}
 use lib.ListN.{length}
 use Rattle.text_whole.specs.Texts.{Ends}
-use Rattle.text_whole.proofs.Compare.{ends_none, ends_block}
-use borrow.Author.Rules.{rules}
 use Rattle.text_whole.proofs.end_blocks.Given as goal
 
 abbrev pub invariant-loop-c : goal.invariant-loop-c

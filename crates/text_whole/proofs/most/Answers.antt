@@ -1,11 +1,10 @@
 use lib.Bits.{bit_or}
-use Prim.Native.Nat.{ℕ, ◌-◌, ◌≤◌, ◌<◌}
+use Prim.Native.Nat.{◌≤◌}
 use native.Mathlib.Nat.{le_trans}
 use native.Mathlib.Omega.{arith}
 use borrow.Author.Count.{below_none, below_more}
-use lib.ListN.{length, get_or}
+use lib.ListN.{get_or}
 use Rattle.text_whole.proofs.Texts.{or_left, or_right}
-use borrow.Author.Rules.{rules}
 use Rattle.text_whole.proofs.most.Goals as goal
 
 pub loop-i-init : goal.loop-i-init

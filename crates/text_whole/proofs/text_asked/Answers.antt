@@ -1,11 +1,8 @@
-use mathlib.Core.Path.{◌≡◌, refl, sym, ◌∙◌}
-use Prim.Native.Nat.{◌-◌}
+use mathlib.Core.Path.{sym, ◌∙◌}
 use native.Mathlib.Nat.{le_trans}
-use lib.ListN.{length, drop}
 use Rattle.records.specs.Questions.{q_ascii}
-use Rattle.records.specs.Pieces.{fine, refused, first_high}
+use Rattle.records.specs.Pieces.{fine, refused}
 use Rattle.text_whole.proofs.Texts.{too_long, asked_is, all_low, low_next, high_here, low_end}
-use borrow.Author.Rules.{rules}
 use Rattle.text_whole.proofs.text_asked.Goals as goal
 
 pub returns-then-text-gt-MOST_BYTES : goal.returns-then-text-gt-MOST_BYTES

@@ -1,12 +1,8 @@
 -- The invariant: questions 1 and 2 of the text are question 2 of what is left; where no byte exceeds 127 nothing is left to ask.
-use mathlib.Core.Path.{◌≡◌, refl, sym, ◌∙◌}
+use mathlib.Core.Path.{◌≡◌}
 use Prim.Native.Nat.{◌-◌}
-use native.Mathlib.Nat.{le_trans}
 use lib.ListN.{length, drop}
-use Rattle.records.specs.Questions.{q_ascii}
-use Rattle.records.specs.Pieces.{fine, refused, first_high}
-use Rattle.text_whole.proofs.Texts.{too_long, asked_is, all_low, low_next, high_here, low_end}
-use borrow.Author.Rules.{rules}
+use Rattle.records.specs.Pieces.{first_high}
 use Rattle.text_whole.proofs.text_asked.Given as goal
 
 abbrev pub invariant-loop-i : goal.invariant-loop-i

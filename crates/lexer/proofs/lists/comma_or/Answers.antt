@@ -1,7 +1,6 @@
 -- The code asks for a comma and then for the closing byte behind the same white space, as the definition does.
 use Rattle.grammar.specs.Types.{comma_or}
 use Rattle.lexer.proofs.Laws.{g_token_yes, g_token_no, g_byte_yes, g_byte_no, g_stay, g_fail}
-use borrow.Author.Rules.{rules}
 use Rattle.lexer.proofs.lists.comma_or.Goals as goal
 
 pub returns-then-looks : goal.returns-then-looks

@@ -1,7 +1,6 @@
 -- The comparison is the one that the definition makes.
 use mathlib.Core.Path.{◌∙◌, sym}
 use borrow.Author.Tests.{lt-ltb, le-ltb}
-use borrow.Author.Rules.{rules}
 use Rattle.lexer.proofs.lists.count_child.Goals as goal
 
 pub returns-then-n-lt-CHILD_LIMIT : goal.returns-then-n-lt-CHILD_LIMIT

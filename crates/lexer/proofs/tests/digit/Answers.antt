@@ -1,6 +1,5 @@
 -- The class of the byte at the cursor; at the text's end there is none.
 use mathlib.Core.Path.{sym}
-use borrow.Author.Rules.{rules}
 use Rattle.lexer.proofs.TestLaws.{digit_in, digit_out}
 use Rattle.lexer.proofs.tests.digit.Goals as goal
 

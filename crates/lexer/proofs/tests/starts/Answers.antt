@@ -1,9 +1,4 @@
-use mathlib.Core.Path.{◌≡◌, refl, sym, ◌∙◌}
-use Prim.Native.Nat.{◌-◌}
-use lib.ListN.{length, drop}
-use borrow.Author.Rules.{rules}
-use Rattle.program.specs.Prog.{lead_word}
-use Rattle.grammar.specs.Lexer.{starts_with}
+use mathlib.Core.Path.{sym, ◌∙◌}
 use Rattle.lexer.proofs.TestLaws.{start_short, start_other, start_ends, start_more, start_end}
 use Rattle.lexer.proofs.tests.starts.Goals as goal
 

@@ -1,11 +1,9 @@
 -- The invariant: the word at the cursor begins with kw if the word at i begins with what is left of kw.
-use mathlib.Core.Path.{◌≡◌, refl, sym, ◌∙◌}
+use mathlib.Core.Path.{◌≡◌}
 use Prim.Native.Nat.{◌-◌}
 use lib.ListN.{length, drop}
-use borrow.Author.Rules.{rules}
 use Rattle.program.specs.Prog.{lead_word}
 use Rattle.grammar.specs.Lexer.{starts_with}
-use Rattle.lexer.proofs.TestLaws.{start_short, start_other, start_ends, start_more, start_end}
 use Rattle.lexer.proofs.tests.starts.Given as goal
 
 abbrev pub invariant-loop-j : goal.invariant-loop-j

@@ -1,9 +1,5 @@
 use mathlib.Core.Path.{sym, ◌∙◌}
-use Prim.Native.Nat.{◌-◌}
-use lib.ListN.{length}
-use Rattle.lexer_names.specs.Names.{string_step}
-use Rattle.lexer.proofs.Scan.{Going, going_start, going_more, going_stop, going_out}
-use borrow.Author.Rules.{rules}
+use Rattle.lexer.proofs.Scan.{going_start, going_more, going_stop, going_out}
 use Rattle.lexer_names.proofs.quotes.string_end.Goals as goal
 
 pub loop-i-init : goal.loop-i-init

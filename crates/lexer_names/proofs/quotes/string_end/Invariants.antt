@@ -1,10 +1,8 @@
 -- The invariant `Going`: place and state where the automaton stops are those that it has from i on in state q.
-use mathlib.Core.Path.{sym, ◌∙◌}
 use Prim.Native.Nat.{◌-◌}
 use lib.ListN.{length}
 use Rattle.lexer_names.specs.Names.{string_step}
-use Rattle.lexer.proofs.Scan.{Going, going_start, going_more, going_stop, going_out}
-use borrow.Author.Rules.{rules}
+use Rattle.lexer.proofs.Scan.{Going}
 use Rattle.lexer_names.proofs.quotes.string_end.Given as goal
 
 abbrev pub invariant-loop-i : goal.invariant-loop-i

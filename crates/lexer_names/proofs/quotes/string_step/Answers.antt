@@ -1,5 +1,4 @@
 -- One automaton or the other.
-use borrow.Author.Rules.{rules}
 use Rattle.lexer_names.proofs.quotes.string_step.Goals as goal
 
 pub returns-then-cstr : goal.returns-then-cstr

@@ -1,12 +1,8 @@
-use mathlib.Core.Path.{◌≡◌, refl, sym, ◌∙◌}
+use mathlib.Core.Path.{refl, sym, ◌∙◌}
 use native.Mathlib.Omega.{arith}
-use Prim.Native.Nat.{◌+◌, ◌-◌, ◌≤◌}
-use lib.ListN.{length, drop}
-use Rattle.program.specs.Prog.{scan_len}
 use Rattle.grammar.specs.Lexer.{balance_step}
 use Rattle.lexer.proofs.Scan.{scan_out}
 use Rattle.lexer_names.proofs.Strings.{balance_left, balance_other, balance_right, balance_stop}
-use borrow.Author.Rules.{rules}
 use Rattle.lexer_names.proofs.skips.balance_end.Goals as goal
 use Rattle.lexer_names.proofs.skips.balance_end.Goals.{then-b-left, else-b-left+then-b-right+else-q-eq0, else-b-left+else-b-right}
 

@@ -1,14 +1,9 @@
 -- The invariant: what is open at `at` closes where what is open at i closes with q more open; each of those took a byte, so q does not wrap.
-use mathlib.Core.Path.{◌≡◌, refl, sym, ◌∙◌}
-use mathlib.Core.Logic.{⊎_elim}
-use native.Mathlib.Omega.{arith}
+use mathlib.Core.Path.{◌≡◌}
 use Prim.Native.Nat.{◌+◌, ◌-◌, ◌≤◌}
 use lib.ListN.{length, drop}
 use Rattle.program.specs.Prog.{scan_len}
 use Rattle.grammar.specs.Lexer.{balance_step}
-use Rattle.lexer.proofs.Scan.{scan_out}
-use Rattle.lexer_names.proofs.Strings.{balance_left, balance_other, balance_right, balance_stop}
-use borrow.Author.Rules.{rules}
 use Rattle.lexer_names.proofs.skips.balance_end.Given as goal
 
 abbrev pub invariant-loop-i : goal.invariant-loop-i

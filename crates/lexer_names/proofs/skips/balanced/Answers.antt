@@ -1,7 +1,6 @@
 -- The scan stops at the closing byte or at the text's end.
 use Rattle.grammar.specs.Lexer.{balanced, balance_step}
 use Rattle.lexer.proofs.Laws.{g_scan, g_byte_yes, g_byte_no, g_fail, g_done, kept}
-use borrow.Author.Rules.{rules}
 use Rattle.lexer_names.proofs.skips.balanced.Goals as goal
 
 pub returns-then-looks : goal.returns-then-looks

@@ -4,7 +4,6 @@ use mathlib.Core.Path.{sym, ◌∙◌}
 use Rattle.lexer.proofs.Laws.{kept}
 use Rattle.lexer.proofs.Scan.{byte_inside}
 use Rattle.lexer_names.proofs.Strings.{cstring_cut, cstring_bad, cstring_open, cstring_shut}
-use borrow.Author.Rules.{rules}
 use Rattle.lexer_names.proofs.skips.cstring.Goals as goal
 
 pub overflow_add-n : goal.overflow_add-n

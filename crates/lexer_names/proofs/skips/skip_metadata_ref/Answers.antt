@@ -1,7 +1,6 @@
 -- The program's steps are the code's.
 use Rattle.grammar.specs.Lexer.{skip_metadata_ref}
 use Rattle.lexer.proofs.Laws.{g_then, g_byte_yes, g_byte_no, g_done}
-use borrow.Author.Rules.{rules}
 use Rattle.lexer_names.proofs.skips.skip_metadata_ref.Goals as goal
 
 pub returns-then-looks-2 : goal.returns-then-looks-2

@@ -1,7 +1,6 @@
 -- White space, the `(`, and what it opens; else the refusal.
 use Rattle.grammar.specs.Lexer.{skip_parens}
 use Rattle.lexer.proofs.Laws.{g_then, g_byte_yes, g_byte_no, g_fail}
-use borrow.Author.Rules.{rules}
 use Rattle.lexer_names.proofs.skips.skip_parens.Goals as goal
 
 pub returns-then-looks : goal.returns-then-looks

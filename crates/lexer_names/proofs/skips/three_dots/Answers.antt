@@ -1,7 +1,6 @@
 -- Three dots one behind the other; where one is missing the refusal is at the first.
 use Rattle.grammar.specs.Lexer.{three_dots}
 use Rattle.lexer.proofs.Laws.{g_here, g_byte_yes, g_byte_no, g_fail_at, g_done}
-use borrow.Author.Rules.{rules}
 use Rattle.lexer_names.proofs.skips.three_dots.Goals as goal
 
 pub returns-then-looks-3 : goal.returns-then-looks-3

@@ -2,7 +2,6 @@
 -- Assumes nothing.
 use mathlib.Core.Path.{sym}
 use native.Mathlib.Omega.{arith}
-use borrow.Author.Rules.{rules}
 use Rattle.number_decimals.proofs.Scale.{counted_same, counted_most}
 use Rattle.number_decimals.proofs.mantissa.count_on.Goals as goal
 

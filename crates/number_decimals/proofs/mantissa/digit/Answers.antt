@@ -1,6 +1,5 @@
 -- A zero is kept back; another digit takes the zeros before it along.
 -- Assumes nothing.
-use borrow.Author.Rules.{rules}
 use borrow.Author.Tests.{eq-eqb, ne_eqb}
 use Rattle.number_decimals.specs.Decimals.{digit_pushed}
 use Rattle.number_decimals.proofs.mantissa.digit.Goals as goal

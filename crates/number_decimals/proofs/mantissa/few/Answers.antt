@@ -1,6 +1,5 @@
 -- At most 15 digits.
 -- Assumes nothing.
-use borrow.Author.Rules.{rules}
 use borrow.Author.Tests.{lt-ltb, le-ltb}
 use Rattle.number_decimals.specs.Decimals.{few_digits}
 use Rattle.number_decimals.proofs.mantissa.few.Goals as goal

@@ -4,7 +4,6 @@ use mathlib.Core.Path.{◌≡◌, ◌∙◌}
 use Prim.Native.Nat.{ℕ, ◌*◌, ◌+◌, ◌^◌, ◌<◌, zero-le}
 use native.Mathlib.Nat.{pow-le-pow_right}
 use lib.Dec.{lit<}
-use borrow.Author.Rules.{rules}
 use borrow.Author.Tests.{le-leb, lt-leb}
 use Rattle.number_decimals.specs.Decimals.{few_digits, significant_pushed}
 use Rattle.number_decimals.proofs.mantissa.significant.Goals as goal

@@ -3,7 +3,6 @@
 use mathlib.Core.Path.{sym, ap, ◌∙◌}
 use Prim.Native.Nat.{ℕ, ◌*◌, ◌%◌, ◌^◌}
 use native.Mathlib.Nat.{mod-eq_of_lt}
-use borrow.Author.Rules.{rules}
 use Rattle.number_decimals.proofs.Nearest.{tens}
 use Rattle.number_decimals.proofs.Scale.{tens_small}
 use Rattle.number_decimals.proofs.mantissa.ten.Goals as goal

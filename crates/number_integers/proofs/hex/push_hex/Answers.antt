@@ -1,6 +1,5 @@
 -- A digit more, or more than 16.
 -- Assumes nothing.
-use borrow.Author.Rules.{rules}
 use borrow.Author.Tests.{lt-ltb, le-ltb}
 use Rattle.number_integers.specs.Hex.{hex_pushed}
 use Rattle.number_integers.proofs.hex.push_hex.Goals as goal

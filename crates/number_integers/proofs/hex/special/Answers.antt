@@ -1,7 +1,6 @@
 -- Infinity, and NaN with its quiet bit.
 -- Assumes nothing.
 use native.Mathlib.Omega.{arith}
-use borrow.Author.Rules.{rules}
 use Rattle.number_integers.proofs.Widen.{infinity_is, quiet_is, loud_is}
 use Rattle.number_integers.proofs.hex.special.Goals as goal
 

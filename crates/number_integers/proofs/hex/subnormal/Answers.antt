@@ -4,7 +4,6 @@ use mathlib.Core.Path.{◌≡◌}
 use Prim.Native.Nat.{ℕ, ◌+◌, ◌-◌, ◌*◌, ◌%◌, ◌^◌, ◌<◌}
 use native.Mathlib.Omega.{arith}
 use lib.Count.{count_leading_zeros}
-use borrow.Author.Rules.{rules}
 use Rattle.grammar.specs.Numbers.{subnormal_bits}
 use Rattle.number_integers.proofs.Widen.{zeros_many, shifted_small, shift_exact, subnormal_is}
 use Rattle.number_integers.proofs.hex.subnormal.Goals as goal

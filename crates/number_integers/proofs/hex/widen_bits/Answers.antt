@@ -3,7 +3,6 @@
 use mathlib.Core.Path.{refl, ap, ◌∙◌}
 use Prim.Native.Nat.{ℕ, ◌+◌, ◌*◌, ◌^◌, ◌<◌}
 use native.Mathlib.Omega.{arith}
-use borrow.Author.Rules.{rules}
 use Rattle.grammar.specs.Numbers.{special_bits}
 use Rattle.number_integers.proofs.Widen.{special_case, zero_case, subnormal_case, normal_case}
 use Rattle.number_integers.proofs.hex.widen_bits.Goals as goal

@@ -4,7 +4,6 @@ use Prim.Native.Nat.{◌/◌, ◌<◌}
 use native.Mathlib.Nat.{le_trans, le_of_lt}
 use native.Mathlib.Omega.{arith}
 use lib.Dec.{lit≤}
-use borrow.Author.Rules.{rules}
 use Rattle.number_integers.proofs.Halves.{B, t1, carry_small, spills, high_small, carries}
 use Rattle.number_integers.proofs.integer.carried.Goals as goal
 

@@ -1,7 +1,6 @@
 -- The halves of 2^128 less the number.
 -- Assumes nothing.
 use native.Mathlib.Omega.{arith}
-use borrow.Author.Rules.{rules}
 use Rattle.number_integers.proofs.Halves.{halves_are, negated_low, negated_high, negated_zero}
 use Rattle.number_integers.proofs.integer.negated.Goals as goal
 

@@ -3,7 +3,6 @@
 use mathlib.Core.Path.{ap}
 use Prim.Native.Nat.{ℕ, ◌*◌, ◌+◌}
 use native.Mathlib.Omega.{arith}
-use borrow.Author.Rules.{rules}
 use Rattle.number_integers.specs.Integers.{pushed}
 use Rattle.number_integers.proofs.Halves.{stays_low}
 use Rattle.number_integers.proofs.integer.push.Goals as goal

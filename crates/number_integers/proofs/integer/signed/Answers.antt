@@ -5,7 +5,6 @@ use mathlib.Core.Path.{◌≡◌, refl, ◌∙◌, sym}
 use Prim.Native.Nat.{◌/◌, ◌%◌, ◌<◌, ℕ, ◌*◌, ◌+◌}
 use native.Mathlib.Omega.{arith}
 use lib.Dec.{leb}
-use borrow.Author.Rules.{rules}
 use Rattle.grammar.specs.Numbers.{largest, twos}
 use Rattle.number_integers.specs.Integers.{held_by, signed_of}
 use Rattle.number_integers.specs.declared.integer.Integer.TheVariants.{Value}

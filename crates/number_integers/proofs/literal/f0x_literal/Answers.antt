@@ -1,6 +1,5 @@
 -- 8 digits, 16, or another count.
 -- Assumes nothing.
-use borrow.Author.Rules.{rules}
 use borrow.Author.Tests.{eq-eqb, ne_eqb}
 use Rattle.number_integers.specs.Literals.{f0x_literal}
 use Rattle.number_integers.proofs.literal.f0x_literal.Goals as goal

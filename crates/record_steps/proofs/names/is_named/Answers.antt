@@ -1,7 +1,6 @@
 -- The tests of the code are those of the definition, in its order.
 use borrow.Author.Tests.{eq-eqb, ne_eqb}
 use Rattle.trees.specs.Steps.{is_named}
-use borrow.Author.Rules.{rules}
 use Rattle.record_steps.proofs.names.is_named.Goals as goal
 
 pub returns-then-kind-eq-K_NAMED : goal.returns-then-kind-eq-K_NAMED

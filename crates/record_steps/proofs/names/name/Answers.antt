@@ -2,9 +2,7 @@
 use mathlib.Core.Path.{sym, ◌∙◌}
 use native.Mathlib.Omega.{arith}
 use Rattle.record_steps.proofs.StepLaws.{within}
-use borrow.Author.Tests.{not-true, not-false}
 use Rattle.trees.specs.Steps.{name_of}
-use borrow.Author.Rules.{rules}
 use Rattle.record_steps.proofs.names.name.Goals as goal
 
 pub returns-then-not-is_header : goal.returns-then-not-is_header

@@ -1,7 +1,6 @@
 -- The two tests of the code are those of the definition, and two halves of a word do not wrap.
 use borrow.Author.Tests.{le-leb, lt-leb, lt-ltb, le-ltb}
 use Rattle.trees.specs.Steps.{part_of}
-use borrow.Author.Rules.{rules}
 use Rattle.record_steps.proofs.names.part.Goals as goal
 
 pub returns-then-start-length : goal.returns-then-start-length

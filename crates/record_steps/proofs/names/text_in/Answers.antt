@@ -1,7 +1,6 @@
 -- The part lies inside the piece, so that it can be cut out of it.
 use native.Mathlib.Omega.{arith}
 use Rattle.record_steps.proofs.NameLaws.{inside_piece, text_there, no_text}
-use borrow.Author.Rules.{rules}
 use Rattle.record_steps.proofs.names.text_in.Goals as goal
 
 pub overflow_add-end : goal.overflow_add-end

@@ -1,6 +1,5 @@
 -- The table's rule is one computed equation; a number behind the table is no kind's.
 use Rattle.record_steps.proofs.PayloadLaws.{alike, beyond}
-use borrow.Author.Rules.{rules}
 use Rattle.record_steps.proofs.payloads.alike.Goals as goal
 
 pub returns-then-kind-lt64 : goal.returns-then-kind-lt64
