@@ -1,6 +1,6 @@
 -- A search through the rules of a table, step by step, as the code makes it.
 -- Assumes nothing.
-use Rattle.std.specs.Prelude.{Bool, true, false, ◌&&◌, ℕ, zero, suc, ◌+◌, ◌-◌, ◌*◌, ◌%◌, ltb, leb, eqb}
+use Rattle.std.specs.Prelude.{Bool, true, false, ◌&&◌, ℕ, ◌+◌, ◌-◌, ◌*◌, ◌%◌, ltb, eqb}
 use Rattle.program.specs.Choice.{pick}
 use Rattle.records.specs.Limits.{class_limit}
 use Rattle.records.specs.Questions.{q_rule, q_overlap, q_gap}

@@ -1,6 +1,6 @@
 // Is a table of rules in order, and what does it say of a call (02: M-102)?
-// The borrow checker covers no function that is lent a slice of structs, so one thin function alone has it: `judged` shows the rules, one at a time,
-// to a search that says which one it wants next. All else takes a rule by value.
+// One thin function alone is lent the rules: `judged` shows them, one at a time, to a search that says which one it wants next. All else takes a
+// rule by value.
 // A search makes passes over the rules, the last rule first, so that what it found last has the lowest number. Overlaps and gaps are looked for in
 // windows of 64 channels of one class, whose marks are the bits of a word; windows in which no rule begins or ends are left out.
 #![tactic(auto)]

@@ -10,14 +10,13 @@ use lib.ListN.{length, drop}
 use borrow.Author.Tests.{eqb-true}
 use Rattle.program.specs.Class.{class_of, is_word}
 use Rattle.program.specs.Prog.{Prog, last, Res, ok, closed, no_at, run, ◌>>=◌, byte_at}
-use Rattle.records.specs.Kinds.{kind}
 use Rattle.records.specs.Piece.{block_of, block_read}
 use Rattle.grammar.specs.Lexer.{eat_ws, is_byte}
 use Rattle.grammar.specs.Body.{Statement, label, instruction, terminator, in_block, parse_statement, over_at, finish_block, parse_body, parse_block}
 use Rattle.grammar.specs.Function.{block_at}
 use Rattle.lexer.specs.Step.{looks_p, passed, refused, place_p}
 use Rattle.node_words.specs.Writes.{pushed, pushes}
-use Rattle.lexer.specs.Reads.{Stands, Budget, At, Ends, at, out, Leads, Goal, made, reach, Reached, there, gone as is-gone, same, Gives}
+use Rattle.lexer.specs.Reads.{Stands, Budget, At, Ends, at, out, Leads, Goal, made, reach, Reached, there, gone as is-gone, Gives}
 use Rattle.lexer.specs.declared.Cursor.{Cursor}
 use Rattle.lexer.specs.declared.Parsed.{Parsed}
 use Rattle.lexer.specs.declared.Parsed.TheVariants.{Ok, Refused}

@@ -23,7 +23,7 @@ use Rattle.grammar.specs.Body.{param_of, unnumbered, parse_param, parse_params, 
 use Rattle.grammar.specs.Function.{head_at}
 use Rattle.lexer.specs.Step.{looks_p, passed, refused, counted_p}
 use Rattle.node_words.specs.Writes.{header_of, closes}
-use Rattle.lexer.specs.Reads.{Budget, At, Ends, at, out, Leads, Goal, made, same, Reached, there, gone, reach, Gave, got, not as refuses, Gives, Came, on, off, Comes, Inside}
+use Rattle.lexer.specs.Reads.{Budget, At, Ends, at, out, Leads, Goal, made, Reached, there, gone, reach, Gave, got, not as refuses, Gives, Came, on, off, Comes, Inside}
 use Rattle.lexer.specs.declared.Cursor.{Cursor}
 use Rattle.lexer.specs.declared.Parsed.{Parsed}
 use Rattle.lexer.specs.declared.Parsed.TheVariants.{Ok, Refused}

@@ -1,6 +1,5 @@
 // A handle: it holds the lent words and a place in them. The preview screen steps with it from node to node.
-// The borrow checker covers no function over such a struct, so each is thin and is proved by a walk of its code; the work is done on the words and
-// the place by the functions of lib.rt and names.rt.
+// Its functions are thin: the work is done on the words and the place by the functions of lib.rt and names.rt.
 ghost use Rattle.std.specs.Prelude.{◌≡◌, length};
 ghost use Rattle.trees.specs.Steps.{child_of, next_of, name_of};
 ghost use Rattle.record_steps.specs.Views.{part_in};
@@ -48,14 +47,14 @@ pub fn name<'a, 'b>(h: Handle<'a>, piece: &'b [u8]) -> Text
     super::names::name(h.words, h.at, piece)
 }
 
-// The same from words and a place, by way of a handle: whoever calls it needs no walk.
+// The same from words and a place, by way of a handle.
 pub fn name_at(words: &[u64], at: usize, piece: &[u8]) -> Text
     ensures { part_in result ≡ name_of words.now at (length piece.now) }
 {
     name(new(words, at), piece)
 }
 
-// The place that a step to the child reaches, or the place itself: a handle in a local is lent to the step. Whoever calls it needs no walk.
+// The place that a step to the child reaches, or the place itself: a handle in a local is lent to the step.
 pub fn child_at(words: &[u64], at: usize) -> usize
     ensures { result ≡ place_or at (child_of words.now at) }
 {

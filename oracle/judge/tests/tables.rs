@@ -59,9 +59,9 @@ fn arms(name: &str) -> Vec<String> {
 #[test]
 fn attributes() {
     let text = parser();
-    assert_eq!(table("Attributes", "flagAttrs"), quoted(between(&text, "const FLAG_ATTRS", "];")));
-    assert_eq!(table("Attributes", "parenAttrs"), quoted(between(&text, "const PAREN_ATTRS", "];")));
-    assert_eq!(table("Attributes", "callingConventions"), quoted(between(&text, "const CCONVS", "];")));
+    assert_eq!(table("Attributes", "flag_attrs"), quoted(between(&text, "const FLAG_ATTRS", "];")));
+    assert_eq!(table("Attributes", "paren_attrs"), quoted(between(&text, "const PAREN_ATTRS", "];")));
+    assert_eq!(table("Attributes", "calling_conventions"), quoted(between(&text, "const CCONVS", "];")));
     assert_eq!(table("Attributes", "linkages"), matched("parse_linkage", "expected a linkage"));
 }
 
@@ -69,17 +69,17 @@ fn attributes() {
 /// needs its parentheses.
 #[test]
 fn in_both_lists() {
-    let with_parens = table("Attributes", "parenAttrs");
-    let both = table("Attributes", "flagAttrs").into_iter().filter(|word| with_parens.contains(word));
+    let with_parens = table("Attributes", "paren_attrs");
+    let both = table("Attributes", "flag_attrs").into_iter().filter(|word| with_parens.contains(word));
     assert_eq!(both.collect::<Vec<_>>(), [judge::domain::BOTH_WAYS]);
 }
 
 #[test]
 fn flags() {
     let text = parser();
-    assert_eq!(table("Attributes", "fastMathFlags"), quoted(between(&text, "const FLAGS", "];")));
-    assert_eq!(table("Attributes", "arithFlags"), matched("skip_arith_flags", "fn skip_fast_math_flags"));
-    assert_eq!(table("Attributes", "convFlags"), matched("parse_conv", "let from_ty"));
+    assert_eq!(table("Attributes", "fast_math_flags"), quoted(between(&text, "const FLAGS", "];")));
+    assert_eq!(table("Attributes", "arith_flags"), matched("skip_arith_flags", "fn skip_fast_math_flags"));
+    assert_eq!(table("Attributes", "conv_flags"), matched("parse_conv", "let from_ty"));
     assert_eq!(
         table("Instructions", "orderings"),
         listed("skip_atomic_ordering", "Ok(())\n    }", "for kw in [", "]")
@@ -88,17 +88,17 @@ fn flags() {
 
 #[test]
 fn predicates() {
-    assert_eq!(table("Instructions", "icmpPreds"), listed("parse_icmp_pred", "for (kw", "let preds", "];"));
-    assert_eq!(table("Instructions", "fcmpPreds"), listed("parse_fcmp_pred", "for (kw", "let preds", "];"));
+    assert_eq!(table("Instructions", "icmp_preds"), listed("parse_icmp_pred", "for (kw", "let preds", "];"));
+    assert_eq!(table("Instructions", "fcmp_preds"), listed("parse_fcmp_pred", "for (kw", "let preds", "];"));
 }
 
 #[test]
 fn operators() {
-    assert_eq!(table("Values", "convOps"), listed("match_conv_op", "for (kw", "const OPS", "];"));
-    assert_eq!(table("Values", "binOps"), listed("match_bin_op", "for (kw", "const OPS", "];"));
-    assert_eq!(table("Values", "binOps"), arms("parse_bin"));
-    assert_eq!(table("Instructions", "fbinOps"), arms("parse_fbin"));
-    assert_eq!(table("Instructions", "instConvOps"), arms("parse_conv"));
+    assert_eq!(table("Values", "conv_ops"), listed("match_conv_op", "for (kw", "const OPS", "];"));
+    assert_eq!(table("Values", "bin_ops"), listed("match_bin_op", "for (kw", "const OPS", "];"));
+    assert_eq!(table("Values", "bin_ops"), arms("parse_bin"));
+    assert_eq!(table("Instructions", "fbin_ops"), arms("parse_fbin"));
+    assert_eq!(table("Instructions", "inst_conv_ops"), arms("parse_conv"));
 }
 
 /// M-100: "the seven of `RmwOp`", in ast.rs order.
@@ -107,5 +107,5 @@ fn rmw_operators() {
     let ast = read("../uvclang/src/ast.rs");
     let cases = between(&ast, "pub enum RmwOp\n{", "}").split(',').map(|case| case.trim().to_lowercase());
     let cases: Vec<String> = cases.filter(|case| !case.is_empty()).collect();
-    assert_eq!(table("Instructions", "rmwOps"), cases);
+    assert_eq!(table("Instructions", "rmw_ops"), cases);
 }

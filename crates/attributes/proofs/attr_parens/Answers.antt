@@ -3,7 +3,6 @@ use Rattle.grammar.specs.Attributes.{paren_attrs, dead_on_return, attr_parens}
 use Rattle.grammar.specs.Lexer.{rank, same_word}
 use Rattle.lexer.proofs.Laws.{g_then, g_done, g_byte_at_yes, g_byte_at_no}
 use borrow.Author.Tests.{eq-eqb, ne_eqb}
-use borrow.Author.Rules.{rules}
 use Rattle.attributes.proofs.attr_parens.Goals as goal
 
 pub returns-then-looks : goal.returns-then-looks

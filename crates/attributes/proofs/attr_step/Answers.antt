@@ -1,6 +1,6 @@
 -- The tests of the definition stand in another order here: two letters, `noundef`, and the words that are none are asked first. Each way the laws
 -- of `LetterLaws` say what the tests that were left out would answer.
-use Rattle.attributes.proofs.LetterLaws.{lettered, letters_rank, letters_word, known_rank, known_word, known_in, apart, apart_rank, apart_word, not_yes}
+use Rattle.attributes.proofs.LetterLaws.{lettered, letters_rank, letters_word, known_rank, known_word, known_in, apart, apart_rank, apart_word}
 use Rattle.attributes.specs.Step.{letters, is_small, no_attrs}
 use Rattle.grammar.specs.Lexer.{rank, same_word}
 use Rattle.program.specs.Bytes.{bytes}
@@ -11,7 +11,6 @@ use Rattle.lexer.proofs.Laws.{true_false, g_then, g_done, g_stay, g_byte_yes, g_
 use Rattle.grammar.specs.Attributes.{paren_attrs, flag_attrs, skip_attrs_in}
 use Rattle.program.specs.Prog.{◌>>=◌}
 use mathlib.Core.Path.{sym}
-use borrow.Author.Rules.{rules}
 use Rattle.attributes.proofs.attr_step.Goals as goal
 
 pub returns-then-looks : goal.returns-then-looks

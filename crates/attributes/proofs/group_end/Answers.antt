@@ -1,11 +1,7 @@
-use mathlib.Core.Path.{◌≡◌, refl, sym, ◌∙◌}
-use Prim.Native.Nat.{◌+◌, ◌-◌}
-use lib.ListN.{length, drop}
-use Rattle.program.specs.Prog.{scan_len}
+use mathlib.Core.Path.{sym, ◌∙◌}
 use Rattle.grammar.specs.Attributes.{group_step}
 use Rattle.lexer.proofs.Scan.{scan_out}
 use Rattle.attributes.proofs.AttrLaws.{group_more, group_stop}
-use borrow.Author.Rules.{rules}
 use Rattle.attributes.proofs.group_end.Goals as goal
 
 pub returns-then-class-ge-DIGIT : goal.returns-then-class-ge-DIGIT

@@ -1,12 +1,9 @@
 -- The invariant: the digits at `at` end where the digits at i end.
-use mathlib.Core.Path.{◌≡◌, refl, sym, ◌∙◌}
+use mathlib.Core.Path.{◌≡◌}
 use Prim.Native.Nat.{◌+◌, ◌-◌}
 use lib.ListN.{length, drop}
 use Rattle.program.specs.Prog.{scan_len}
 use Rattle.grammar.specs.Attributes.{group_step}
-use Rattle.lexer.proofs.Scan.{scan_out}
-use Rattle.attributes.proofs.AttrLaws.{group_more, group_stop}
-use borrow.Author.Rules.{rules}
 use Rattle.attributes.proofs.group_end.Given as goal
 
 abbrev pub invariant-loop-i : goal.invariant-loop-i

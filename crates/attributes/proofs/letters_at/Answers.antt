@@ -1,6 +1,5 @@
 -- The tests of `letters` in their order.
 use Rattle.attributes.proofs.LetterLaws.{short_none, short_one, first_not, second_not, both_are, small_low, small_high, small_yes}
-use borrow.Author.Rules.{rules}
 use Rattle.attributes.proofs.letters_at.Goals as goal
 
 pub returns-then-text-at : goal.returns-then-text-at

@@ -2,7 +2,6 @@
 use Rattle.grammar.specs.Attributes.{linkages, parse_linkage}
 use Rattle.lexer.proofs.Laws.{g_then, g_done}
 use Rattle.lexer_keywords.proofs.Ranks.{g_rank_yes, g_rank_no}
-use borrow.Author.Rules.{rules}
 use Rattle.attributes.proofs.parse_linkage.Goals as goal
 
 pub returns-then-r-lt11 : goal.returns-then-r-lt11

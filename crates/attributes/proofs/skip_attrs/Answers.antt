@@ -1,8 +1,5 @@
-use Rattle.records.specs.Limits.{turns}
 use Rattle.grammar.specs.Attributes.{skip_attrs_in, skip_attrs}
-use Rattle.lexer.specs.Reads.{Comes}
 use Rattle.lexer.proofs.Laws.{g_done, g_stay, g_on, g_more, g_no_more}
-use borrow.Author.Rules.{rules}
 use Rattle.attributes.proofs.skip_attrs.Goals as goal
 
 pub loop-left-init : goal.loop-left-init

@@ -1,9 +1,7 @@
 -- The invariant: the program comes to itself with `left` turns to go; an attribute takes one of them, and no text has as many.
 use Rattle.records.specs.Limits.{turns}
-use Rattle.grammar.specs.Attributes.{skip_attrs_in, skip_attrs}
+use Rattle.grammar.specs.Attributes.{skip_attrs_in}
 use Rattle.lexer.specs.Reads.{Comes}
-use Rattle.lexer.proofs.Laws.{g_done, g_stay, g_on, g_more, g_no_more}
-use borrow.Author.Rules.{rules}
 use Rattle.attributes.proofs.skip_attrs.Given as goal
 
 abbrev pub invariant-loop-left : goal.invariant-loop-left

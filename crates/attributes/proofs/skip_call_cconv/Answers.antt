@@ -2,7 +2,6 @@
 use Rattle.grammar.specs.Attributes.{calling_conventions, skip_call_cconv}
 use Rattle.lexer.proofs.Laws.{g_then, g_done, g_word_yes, g_word_no}
 use Rattle.lexer_keywords.proofs.Ranks.{g_rank_yes, g_rank_no}
-use borrow.Author.Rules.{rules}
 use Rattle.attributes.proofs.skip_call_cconv.Goals as goal
 
 pub returns-then-k-lt10 : goal.returns-then-k-lt10

@@ -1,7 +1,6 @@
 -- The table's words, cut by their lengths, are those of the definition.
 use Rattle.grammar.specs.Attributes.{fast_math_flags, skip_fast_math_flags}
 use Rattle.lexer.specs.Table.{cut}
-use borrow.Author.Rules.{rules}
 use Rattle.attributes.proofs.skip_fast_math_flags.Goals as goal
 
 pub returns : goal.returns

@@ -2,7 +2,6 @@
 use Rattle.program.specs.Prog.{run}
 use Rattle.lexer.proofs.Laws.{given, kept}
 use Rattle.attributes.specs.Step.{group_digits}
-use borrow.Author.Rules.{rules}
 use Rattle.attributes.proofs.skip_group.Goals as goal
 
 pub returns-in-Ok : goal.returns-in-Ok

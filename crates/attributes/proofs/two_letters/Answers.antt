@@ -1,5 +1,4 @@
 -- At a cursor by `letters_at`; a refusal has no letters.
-use borrow.Author.Rules.{rules}
 use Rattle.attributes.proofs.two_letters.Goals as goal
 
 pub returns-in-Ok : goal.returns-in-Ok

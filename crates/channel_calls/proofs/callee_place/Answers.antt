@@ -1,7 +1,6 @@
 -- The detail's lowest bit, and one.
 use native.Mathlib.Omega.{arith}
 use Rattle.channel_spec.specs.Fires.{callee_place}
-use borrow.Author.Rules.{rules}
 use Rattle.channel_calls.proofs.callee_place.Goals as goal
 
 pub returns : goal.returns

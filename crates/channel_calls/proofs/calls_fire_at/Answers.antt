@@ -2,7 +2,6 @@
 use mathlib.Core.Path.{◌∙◌}
 use Rattle.channel_spec.specs.Fires.{calls_fire_at}
 use Rattle.channel_calls.proofs.Nodes.{past_fire}
-use borrow.Author.Rules.{rules}
 use Rattle.channel_calls.proofs.calls_fire_at.Goals as goal
 
 pub returns-then-node-at : goal.returns-then-node-at

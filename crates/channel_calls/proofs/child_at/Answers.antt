@@ -1,10 +1,9 @@
 use mathlib.Core.Path.{◌≡◌, sym, ap, ◌∙◌}
 use native.Mathlib.Omega.{arith}
-use Prim.Native.Nat.{ℕ, ◌-◌, ◌≤◌}
+use Prim.Native.Nat.{ℕ, ◌-◌}
 use Rattle.channel_spec.specs.Fires.{child_at}
 use Rattle.record_steps.specs.Views.{reached}
 use Rattle.channel_calls.proofs.Nodes.{child_next, child_none}
-use borrow.Author.Rules.{rules}
 use Rattle.channel_calls.proofs.child_at.Goals as goal
 
 pub loop-left-init : goal.loop-left-init

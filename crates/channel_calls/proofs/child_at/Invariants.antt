@@ -1,11 +1,8 @@
 -- Where the code has come to is the child that is so many steps before the one that is sought.
-use mathlib.Core.Path.{◌≡◌, sym, ap, ◌∙◌}
-use native.Mathlib.Omega.{arith}
-use Prim.Native.Nat.{ℕ, ◌-◌, ◌≤◌}
+use mathlib.Core.Path.{◌≡◌}
+use Prim.Native.Nat.{◌-◌, ◌≤◌}
 use Rattle.channel_spec.specs.Fires.{child_at}
 use Rattle.record_steps.specs.Views.{reached}
-use Rattle.channel_calls.proofs.Nodes.{child_next, child_none}
-use borrow.Author.Rules.{rules}
 use Rattle.channel_calls.proofs.child_at.Given as goal
 
 abbrev pub invariant-loop-left : goal.invariant-loop-left

@@ -1,7 +1,6 @@
 -- The tests of the code are those of the definition, in its order.
 use borrow.Author.Tests.{eq-eqb, ne_eqb, le-leb, lt-leb}
 use Rattle.channel_spec.specs.Fires.{constant}
-use borrow.Author.Rules.{rules}
 use Rattle.channel_calls.proofs.constant.Goals as goal
 
 pub returns-then-lower : goal.returns-then-lower

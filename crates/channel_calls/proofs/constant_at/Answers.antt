@@ -5,7 +5,6 @@ use Rattle.trees.specs.Steps.{kind_in}
 use Rattle.channel_spec.specs.Fires.{constant_at}
 use Rattle.record_blocks.proofs.Inside.{kind_inside}
 use Rattle.channel_calls.proofs.Nodes.{constant_there, constant_not}
-use borrow.Author.Rules.{rules}
 use Rattle.channel_calls.proofs.constant_at.Goals as goal
 
 pub overflow_add-at : goal.overflow_add-at

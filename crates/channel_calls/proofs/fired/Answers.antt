@@ -1,11 +1,10 @@
-use mathlib.Core.Path.{◌≡◌, sym, ◌∙◌}
+use mathlib.Core.Path.{sym, ◌∙◌}
 use Prim.Native.Nat.{◌*◌}
 use native.Mathlib.Omega.{arith}
 use lib.ListN.{drop}
 use Rattle.records.specs.Limits.{entry_words}
-use Rattle.channel_spec.specs.Fires.{blocks_in, word_fires, nth}
+use Rattle.channel_spec.specs.Fires.{word_fires}
 use Rattle.channel_calls.proofs.Seeks.{blocks_turn, blocks_over, blocks_done}
-use borrow.Author.Rules.{rules}
 use Rattle.channel_calls.proofs.fired.Goals as goal
 
 pub loop-left-init : goal.loop-left-init

@@ -1,12 +1,9 @@
 -- What is sought in the blocks from where the code has come to is what is sought in all.
-use mathlib.Core.Path.{◌≡◌, sym, ◌∙◌}
+use mathlib.Core.Path.{◌≡◌}
 use Prim.Native.Nat.{◌*◌}
-use native.Mathlib.Omega.{arith}
 use lib.ListN.{drop}
 use Rattle.records.specs.Limits.{entry_words}
 use Rattle.channel_spec.specs.Fires.{blocks_in, word_fires, nth}
-use Rattle.channel_calls.proofs.Seeks.{blocks_turn, blocks_over, blocks_done}
-use borrow.Author.Rules.{rules}
 use Rattle.channel_calls.proofs.fired.Given as goal
 
 abbrev pub invariant-loop-left : goal.invariant-loop-left

@@ -1,7 +1,6 @@
 -- The kind is asked first, then the name, which is read from its start to its end.
 use mathlib.Core.Path.{◌∙◌}
 use Rattle.channel_calls.proofs.Nodes.{fire_there, fire_not}
-use borrow.Author.Rules.{rules}
 use Rattle.channel_calls.proofs.is_fire.Goals as goal
 
 pub returns-then-kind-ne-K_GLOBAL : goal.returns-then-kind-ne-K_GLOBAL

@@ -1,11 +1,8 @@
-use mathlib.Core.Path.{◌≡◌, refl, sym, ap, ◌∙◌}
+use mathlib.Core.Path.{sym, ap, ◌∙◌}
 use mathlib.Core.Option.{some}
 use Prim.Native.Nat.{◌-◌}
 use Rattle.record_steps.specs.Views.{reached}
-use Rattle.channel_spec.specs.Fires.{fires_from}
-use Rattle.channel_calls.specs.Seek.{seek}
 use Rattle.channel_calls.proofs.Seeks.{from_turn, from_none, from_done}
-use borrow.Author.Rules.{rules}
 use Rattle.channel_calls.proofs.seek_from.Goals as goal
 
 pub returns-in-Found : goal.returns-in-Found

@@ -1,12 +1,8 @@
 -- What is sought among the nodes from where the code has come to is what is sought among all.
-use mathlib.Core.Path.{◌≡◌, refl, sym, ap, ◌∙◌}
+use mathlib.Core.Path.{◌≡◌}
 use mathlib.Core.Option.{some}
-use Prim.Native.Nat.{◌-◌}
-use Rattle.record_steps.specs.Views.{reached}
 use Rattle.channel_spec.specs.Fires.{fires_from}
 use Rattle.channel_calls.specs.Seek.{seek}
-use Rattle.channel_calls.proofs.Seeks.{from_turn, from_none, from_done}
-use borrow.Author.Rules.{rules}
 use Rattle.channel_calls.proofs.seek_from.Given as goal
 
 abbrev pub invariant-loop-left : goal.invariant-loop-left

@@ -1,11 +1,9 @@
 -- The tests of the code are those of the definition, in its order.
 use mathlib.Core.Path.{sym, ap, ◌∙◌}
 use native.Mathlib.Omega.{arith}
-use borrow.Author.Tests.{not-true, not-false}
 use Rattle.channel_calls.specs.declared.Search.TheVariants.{Found}
 use Rattle.channel_calls.proofs.Nodes.{callee_small}
 use Rattle.channel_calls.proofs.Seeks.{not_call, not_fire, fire_passed, fire_found}
-use borrow.Author.Rules.{rules}
 use Rattle.channel_calls.proofs.seek_here.Goals as goal
 
 pub returns-then-kind_in-ne-K_CALL : goal.returns-then-kind_in-ne-K_CALL

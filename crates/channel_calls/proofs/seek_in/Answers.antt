@@ -3,7 +3,6 @@ use mathlib.Core.Path.{sym, ap, ◌∙◌}
 use Rattle.trees.specs.Steps.{children_in}
 use Rattle.record_steps.specs.Views.{reached}
 use Rattle.channel_calls.proofs.Seeks.{in_there, in_none}
-use borrow.Author.Rules.{rules}
 use Rattle.channel_calls.proofs.seek_in.Goals as goal
 
 pub returns-in-To : goal.returns-in-To

@@ -1,7 +1,6 @@
 -- What is allowed is tested as in the definition.
 use borrow.Author.Tests.{lt-ltb, le-ltb}
 use Rattle.channel_table.specs.Search.{answered}
-use borrow.Author.Rules.{rules}
 use Rattle.channel_table.proofs.answered.Goals as goal
 
 pub returns-then-s-gt0 : goal.returns-then-s-gt0

@@ -1,6 +1,5 @@
 -- Only a call that has a channel asks for another pass.
 use Rattle.channel_table.specs.Search.{answering, answering_to}
-use borrow.Author.Rules.{rules}
 use Rattle.channel_table.proofs.answering.Goals as goal
 
 pub returns-in-Channel : goal.returns-in-Channel

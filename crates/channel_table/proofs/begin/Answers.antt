@@ -1,7 +1,6 @@
 -- The tests are those of the definition, in its order: a class that there is not, then no rules.
 use borrow.Author.Tests.{eq-eqb, ne_eqb, lt-ltb, le-ltb}
 use Rattle.channel_table.specs.Search.{begin, fresh}
-use borrow.Author.Rules.{rules}
 use Rattle.channel_table.proofs.begin.Goals as goal
 
 pub returns-then-asked : goal.returns-then-asked

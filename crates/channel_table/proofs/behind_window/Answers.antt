@@ -1,7 +1,6 @@
 -- The tests are those of the definition, in its order: the window behind, then the class behind.
 use borrow.Author.Tests.{lt-ltb, le-ltb}
 use Rattle.channel_table.specs.Search.{behind_window, with_gap}
-use borrow.Author.Rules.{rules}
 use Rattle.channel_table.proofs.behind_window.Goals as goal
 
 pub returns-then-window-lt-CHANNELS : goal.returns-then-window-lt-CHANNELS

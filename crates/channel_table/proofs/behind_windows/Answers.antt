@@ -1,7 +1,6 @@
 -- The tests are those of the definition, in its order: an overlap, then a gap.
 use borrow.Author.Tests.{eq-eqb, ne_eqb, lt-ltb, le-ltb}
 use Rattle.channel_table.specs.Search.{behind_windows}
-use borrow.Author.Rules.{rules}
 use Rattle.channel_table.proofs.behind_windows.Goals as goal
 
 pub returns-then-s : goal.returns-then-s

@@ -1,7 +1,6 @@
 -- The tests are those of the definition, in its order: each that fails says no.
 use borrow.Author.Tests.{eq-eqb, ne_eqb, le-leb, lt-leb}
 use Rattle.channel_spec.specs.Table.{covers}
-use borrow.Author.Rules.{rules}
 use Rattle.channel_table.proofs.covers.Goals as goal
 
 pub returns-then-rule-class : goal.returns-then-rule-class

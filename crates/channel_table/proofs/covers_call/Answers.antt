@@ -1,6 +1,5 @@
 -- A call that has a channel is covered as its channel is, any other is not.
 use Rattle.channel_table.specs.Search.{covers_call}
-use borrow.Author.Rules.{rules}
 use Rattle.channel_table.proofs.covers_call.Goals as goal
 
 pub returns-in-Channel : goal.returns-in-Channel

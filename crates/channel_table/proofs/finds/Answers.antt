@@ -1,7 +1,6 @@
 -- Each question is answered as the definition answers it.
 use borrow.Author.Tests.{lt-ltb, le-ltb}
 use Rattle.channel_table.specs.Search.{finds, answers}
-use borrow.Author.Rules.{rules}
 use Rattle.channel_table.proofs.finds.Goals as goal
 
 pub returns-then-s : goal.returns-then-s

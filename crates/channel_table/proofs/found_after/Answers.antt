@@ -1,7 +1,6 @@
 -- What is kept is the rule that was shown, where it is before the one found and answers the question, and else the one found.
 use borrow.Author.Tests.{lt-ltb, le-ltb}
 use Rattle.channel_table.specs.Search.{found_after}
-use borrow.Author.Rules.{rules}
 use Rattle.channel_table.proofs.found_after.Goals as goal
 use Rattle.channel_table.proofs.found_after.Goals.{then-s+else-finds, else-s}
 

@@ -1,7 +1,6 @@
 -- A gap that is known stays, and so does none where the window is full.
 use borrow.Author.Tests.{eq-eqb, ne_eqb, lt-ltb, le-ltb}
 use Rattle.channel_table.specs.Search.{gap_after}
-use borrow.Author.Rules.{rules}
 use Rattle.channel_table.proofs.gap_after.Goals as goal
 
 pub returns-then-k-lt-WINDOW : goal.returns-then-k-lt-WINDOW

@@ -1,6 +1,6 @@
 use mathlib.Core.Path.{◌≡◌, ◌∙◌, sym, ap, subst}
 use Prim.Native.Nat.{◌<◌}
-use lib.ListN.{length, get_or}
+use lib.ListN.{get_or}
 use Rattle.channel_spec.specs.declared.Rule.{Rule}
 use Rattle.channel_spec.specs.Table.{channels}
 use Rattle.channel_table.specs.declared.Search.{Search}

@@ -1,6 +1,5 @@
 -- The code makes the record that the definition makes.
 use Rattle.channel_table.specs.Search.{later}
-use borrow.Author.Rules.{rules}
 use Rattle.channel_table.proofs.later.Goals as goal
 
 pub returns : goal.returns

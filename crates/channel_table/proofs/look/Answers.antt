@@ -1,6 +1,5 @@
 -- The question and what is found are those of the definition.
 use Rattle.channel_table.specs.Search.{look}
-use borrow.Author.Rules.{rules}
 use Rattle.channel_table.proofs.look.Goals as goal
 
 pub returns : goal.returns

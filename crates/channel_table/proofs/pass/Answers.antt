@@ -1,6 +1,5 @@
 -- The search is moved to the last rule.
 use Rattle.channel_table.specs.Search.{pass}
-use borrow.Author.Rules.{rules}
 use Rattle.channel_table.proofs.pass.Goals as goal
 
 pub returns : goal.returns

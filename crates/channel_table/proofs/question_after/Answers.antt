@@ -1,6 +1,5 @@
 -- A window has the rule marked, and each other question stays.
 use Rattle.channel_table.specs.Search.{question_after}
-use borrow.Author.Rules.{rules}
 use Rattle.channel_table.proofs.question_after.Goals as goal
 
 pub returns-in-Bad : goal.returns-in-Bad

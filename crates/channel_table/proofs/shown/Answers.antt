@@ -1,7 +1,6 @@
 -- Behind the last rule of a pass the search turns, else the rule before is wanted.
 use Rattle.channel_table.specs.Search.{shown, look, moved}
 use borrow.Author.Tests.{lt-ltb, le-ltb}
-use borrow.Author.Rules.{rules}
 use Rattle.channel_table.proofs.shown.Goals as goal
 
 pub returns-then-s-gt0 : goal.returns-then-s-gt0

@@ -1,7 +1,6 @@
 -- Each question turns as the definition turns it.
 use Rattle.channel_table.specs.Search.{turned, turned_at, done, pass, moved}
 use borrow.Author.Tests.{lt-ltb, le-ltb}
-use borrow.Author.Rules.{rules}
 use Rattle.channel_table.proofs.turned.Goals as goal
 
 pub returns-then-s : goal.returns-then-s

@@ -3,7 +3,6 @@
 use Rattle.inst_calls.proofs.CopyLaws.{again_is, again_not}
 use Rattle.lexer.proofs.Laws.{no_ok}
 use mathlib.Core.Path.{sym, ◌∙◌}
-use borrow.Author.Rules.{rules}
 use Rattle.inst_calls.proofs.again.Goals as goal
 
 pub returns-in-Ok-b : goal.returns-in-Ok-b

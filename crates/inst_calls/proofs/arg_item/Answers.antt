@@ -1,5 +1,4 @@
 -- The type and the value are two children of the list, counted one after the other, and no type goes on with what may stand behind it.
-use borrow.Author.Rules.{rules}
 use Rattle.lexer.proofs.Children.{two_counted}
 use Rattle.inst_calls.proofs.CallLaws.{arg_is}
 use Rattle.inst_calls.proofs.arg_item.Goals as goal

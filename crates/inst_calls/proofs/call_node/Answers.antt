@@ -16,7 +16,6 @@ use Prim.Native.Nat.{◌+◌}
 use mathlib.Core.List.{[], ◌∷◌, ◌++◌}
 use mathlib.Core.Path.{ap, ◌∙◌}
 use native.Mathlib.Omega.{arith}
-use borrow.Author.Rules.{rules}
 use Rattle.inst_calls.proofs.call_node.Goals as goal
 
 pub call_rest-q6-requires : goal.call_rest-q6-requires

@@ -1,7 +1,6 @@
 -- The calls are the definition's steps in the same order, for whatever words stand before them in the node.
 use Rattle.grammar.specs.Instructions.{call_rest}
 use Rattle.lexer.proofs.Laws.{then, val}
-use borrow.Author.Rules.{rules}
 use Rattle.inst_calls.proofs.call_rest.Goals as goal
 
 pub returns : goal.returns

@@ -1,10 +1,9 @@
 use mathlib.Core.Path.{◌≡◌, refl, ◌∙◌}
-use Prim.Native.Nat.{◌+◌, ◌-◌, ◌≤◌}
+use Prim.Native.Nat.{◌+◌}
 use native.Mathlib.Omega.{arith}
-use lib.ListN.{length, get_or, length-set}
+use lib.ListN.{get_or, length-set}
 use Rattle.inst_calls.specs.Copy.{copied}
 use Rattle.inst_calls.proofs.CopyLaws.{copied_more, copied_out}
-use borrow.Author.Rules.{rules}
 use Rattle.inst_calls.proofs.copy.Goals as goal
 
 pub returns-then-to-from : goal.returns-then-to-from

@@ -1,11 +1,8 @@
 -- The invariant: k words are copied; past the array's end there is nothing to store, so a copy that stops there is the whole copy.
-use mathlib.Core.Path.{◌≡◌, refl, ◌∙◌}
-use Prim.Native.Nat.{◌+◌, ◌-◌, ◌≤◌}
-use native.Mathlib.Omega.{arith}
-use lib.ListN.{length, get_or, length-set}
+use mathlib.Core.Path.{◌≡◌}
+use Prim.Native.Nat.{◌-◌, ◌≤◌}
+use lib.ListN.{length}
 use Rattle.inst_calls.specs.Copy.{copied}
-use Rattle.inst_calls.proofs.CopyLaws.{copied_more, copied_out}
-use borrow.Author.Rules.{rules}
 use Rattle.inst_calls.proofs.copy.Given as goal
 
 abbrev pub invariant-loop-k : goal.invariant-loop-k

@@ -1,5 +1,4 @@
 -- The return type's words stand since `s`, so their copy is the return type that the definition puts first in the node.
-use borrow.Author.Rules.{rules}
 use Rattle.inst_calls.proofs.CallLaws.{func_close}
 use Rattle.inst_calls.proofs.CopyLaws.{held_pushed}
 use Rattle.inst_calls.specs.Func.{func_type}

@@ -1,6 +1,5 @@
 -- The definition asks the same.
 use borrow.Author.Tests.{lt-ltb, le-ltb}
-use borrow.Author.Rules.{rules}
 use Rattle.inst_calls.proofs.is_void.Goals as goal
 
 pub returns-then-c-gt0 : goal.returns-then-c-gt0

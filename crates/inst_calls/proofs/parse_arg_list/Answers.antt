@@ -1,12 +1,8 @@
-use borrow.Author.Rules.{rules}
 use Rattle.inst_calls.proofs.CallLaws.{args_of, args_more, args_end}
 use Rattle.grammar.specs.Instructions.{parse_arg_list}
 use Rattle.types.proofs.TypeLaws.{dots_here, dots_out}
 use Rattle.lexer.proofs.Laws.{done, stay, go_on, val, byte_yes, byte_no, call}
-use Rattle.lexer.specs.Reads.{Leads, reach}
-use lib.ListN.{length}
-use mathlib.Core.List.{[]}
-use mathlib.Core.Path.{◌≡◌, refl, ◌∙◌}
+use mathlib.Core.Path.{refl, ◌∙◌}
 use native.Mathlib.Omega.{arith}
 use Rattle.inst_calls.proofs.parse_arg_list.Goals as goal
 

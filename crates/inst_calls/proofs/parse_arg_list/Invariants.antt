@@ -1,15 +1,10 @@
 -- The invariant: the definition with all its turns is the definition from `q` with those left and the arguments written so far; an argument and
 -- its comma are one turn.
-use borrow.Author.Rules.{rules}
-use Rattle.inst_calls.proofs.CallLaws.{args_of, args_more, args_end}
-use Rattle.grammar.specs.Instructions.{parse_arg_list}
-use Rattle.types.proofs.TypeLaws.{dots_here, dots_out}
-use Rattle.lexer.proofs.Laws.{done, stay, go_on, val, byte_yes, byte_no, call}
+use Rattle.inst_calls.proofs.CallLaws.{args_of}
 use Rattle.lexer.specs.Reads.{Leads, reach}
 use lib.ListN.{length}
 use mathlib.Core.List.{[]}
-use mathlib.Core.Path.{◌≡◌, refl, ◌∙◌}
-use native.Mathlib.Omega.{arith}
+use mathlib.Core.Path.{◌≡◌}
 use Rattle.inst_calls.proofs.parse_arg_list.Given as goal
 
 abbrev pub invariant-loop-left : goal.invariant-loop-left

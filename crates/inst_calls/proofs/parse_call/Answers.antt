@@ -1,5 +1,4 @@
 -- It is the call's node; whether it is void does not matter here.
-use borrow.Author.Rules.{rules}
 use Rattle.inst_calls.proofs.parse_call.Goals as goal
 
 pub shape_of-words : goal.shape_of-words

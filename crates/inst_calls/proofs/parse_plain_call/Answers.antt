@@ -2,7 +2,6 @@
 use mathlib.Core.Path.{refl, subst}
 use Rattle.inst_calls.specs.Void.{Voids}
 use Rattle.inst_calls.proofs.VoidLaws.{plain_call, behind_void, behind_next}
-use borrow.Author.Rules.{rules}
 use Rattle.inst_calls.proofs.parse_plain_call.Goals as goal
 
 pub shape_of-words-then-r : goal.shape_of-words-then-r

@@ -3,7 +3,6 @@ use Rattle.inst_operands.proofs.RichLaws.{call_rich}
 use Rattle.grammar.specs.Instructions.{parse_tail_call}
 use Rattle.lexer.proofs.Laws.{val}
 use native.Mathlib.Omega.{arith}
-use borrow.Author.Rules.{rules}
 use Rattle.inst_calls.proofs.parse_tail_call.Goals as goal
 
 pub returns : goal.returns

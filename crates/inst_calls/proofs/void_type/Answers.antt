@@ -1,7 +1,6 @@
 -- The type's first word comes to stand in the one word that is lent.
 use native.Mathlib.Omega.{arith}
 use Rattle.inst_calls.proofs.VoidLaws.{type_void}
-use borrow.Author.Rules.{rules}
 use Rattle.inst_calls.proofs.void_type.Goals as goal
 
 pub returns-then-dest-ne0 : goal.returns-then-dest-ne0

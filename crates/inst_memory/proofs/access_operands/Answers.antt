@@ -1,5 +1,4 @@
 -- The definition takes the same operands by the same test.
-use borrow.Author.Rules.{rules}
 use Rattle.inst_memory.proofs.access_operands.Goals as goal
 
 pub returns-then-store : goal.returns-then-store

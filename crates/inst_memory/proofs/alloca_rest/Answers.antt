@@ -1,15 +1,10 @@
-use borrow.Author.Rules.{rules}
 use Rattle.lexer.proofs.Laws.{done, stay, go_on, then, val, byte_yes, byte_no, word_yes, word_no, token_yes, token_no, more, no_more}
 use Rattle.inst_operands.proofs.Twice.{rewind}
 use Rattle.inst_memory.specs.Alloca.{counting, counted}
 use Rattle.inst_operands.specs.Trailing.{align_of}
 use Rattle.grammar.specs.Instructions.{clauses_in}
-use Rattle.lexer.specs.Reads.{Leads, reach}
-use lib.ListN.{length}
-use mathlib.Core.Option.{none}
 use Prim.Native.Nat.{◌-◌}
-use mathlib.Core.List.{[]}
-use mathlib.Core.Path.{◌≡◌, refl, ◌∙◌}
+use mathlib.Core.Path.{refl, ◌∙◌}
 use Rattle.inst_memory.proofs.alloca_rest.Goals as goal
 
 pub loop-left-init : goal.loop-left-init

@@ -1,17 +1,12 @@
 -- The invariant: the definition from `p` with all its turns is the definition from `q` with those left, the count written so far and the last
 -- alignment; each turn is one step of the definition, and a count is written over the one before it.
-use borrow.Author.Rules.{rules}
-use Rattle.lexer.proofs.Laws.{done, stay, go_on, then, val, byte_yes, byte_no, word_yes, word_no, token_yes, token_no, more, no_more}
-use Rattle.inst_operands.proofs.Twice.{rewind}
 use Rattle.inst_memory.specs.Alloca.{counting, counted}
 use Rattle.inst_operands.specs.Trailing.{align_of}
-use Rattle.grammar.specs.Instructions.{clauses_in}
 use Rattle.lexer.specs.Reads.{Leads, reach}
 use lib.ListN.{length}
 use mathlib.Core.Option.{none}
-use Prim.Native.Nat.{◌-◌}
 use mathlib.Core.List.{[]}
-use mathlib.Core.Path.{◌≡◌, refl, ◌∙◌}
+use mathlib.Core.Path.{◌≡◌}
 use Rattle.inst_memory.proofs.alloca_rest.Given as goal
 
 abbrev pub invariant-loop-left : goal.invariant-loop-left

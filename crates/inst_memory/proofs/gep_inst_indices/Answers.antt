@@ -1,12 +1,8 @@
-use borrow.Author.Rules.{rules}
-use mathlib.Core.Path.{◌≡◌, refl, ◌∙◌}
-use mathlib.Core.List.{[]}
-use lib.ListN.{length}
+use mathlib.Core.Path.{refl, ◌∙◌}
 use Rattle.lexer.proofs.Laws.{stay, go_on}
 use Rattle.inst_memory.proofs.MemoryLaws.{indices_out, indices_end, indices_skip, indices_more}
 use Rattle.records.specs.Limits.{turns}
 use Rattle.grammar.specs.Instructions.{gep_inst_indices}
-use Rattle.lexer.specs.Reads.{Leads, reach}
 use Rattle.inst_memory.proofs.gep_inst_indices.Goals as goal
 
 pub loop-left-init : goal.loop-left-init

@@ -1,11 +1,8 @@
 -- The invariant: the definition from `p` with all its turns is the definition from `q` with those left and the indices written so far; each way
 -- through the loop's body is one law of `MemoryLaws`.
-use borrow.Author.Rules.{rules}
-use mathlib.Core.Path.{◌≡◌, refl, ◌∙◌}
+use mathlib.Core.Path.{◌≡◌}
 use mathlib.Core.List.{[]}
 use lib.ListN.{length}
-use Rattle.lexer.proofs.Laws.{stay, go_on}
-use Rattle.inst_memory.proofs.MemoryLaws.{indices_out, indices_end, indices_skip, indices_more}
 use Rattle.records.specs.Limits.{turns}
 use Rattle.grammar.specs.Instructions.{gep_inst_indices}
 use Rattle.lexer.specs.Reads.{Leads, reach}

@@ -3,7 +3,6 @@ use native.Mathlib.Omega.{arith}
 use Rattle.lexer.proofs.Laws.{done, then, val}
 use Rattle.types.proofs.TypeLaws.{type_then, stuck_token}
 use Rattle.grammar.specs.Instructions.{load_operands}
-use borrow.Author.Rules.{rules}
 use Rattle.inst_memory.proofs.load_operands.Goals as goal
 
 pub returns : goal.returns

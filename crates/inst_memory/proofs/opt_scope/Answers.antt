@@ -1,7 +1,6 @@
 -- The definition asks for the same word, and passes it and the parentheses behind it.
 use Rattle.inst_memory.specs.Ordering.{opt_scope}
 use Rattle.lexer.proofs.Laws.{g_done, g_word_yes, g_word_no}
-use borrow.Author.Rules.{rules}
 use Rattle.inst_memory.proofs.opt_scope.Goals as goal
 
 pub returns-then-word : goal.returns-then-word

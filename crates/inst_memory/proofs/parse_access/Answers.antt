@@ -8,7 +8,6 @@ use Rattle.node_words.proofs.Laws.{begin_then, push_then, patch_then, close_is}
 use Rattle.inst_operands.proofs.OperandLaws.{again}
 use Rattle.inst_memory.proofs.MemoryLaws.{align_none, align_some}
 use Rattle.grammar.specs.Instructions.{access}
-use borrow.Author.Rules.{rules}
 use Rattle.inst_memory.proofs.parse_access.Goals as goal
 
 pub end-requires : goal.end-requires

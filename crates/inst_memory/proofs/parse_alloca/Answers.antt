@@ -13,7 +13,6 @@ use Rattle.lexer.proofs.Laws.{val, byte_at_yes, byte_at_no, fail_is, spare}
 use Rattle.node_words.proofs.Laws.{begin_then}
 use mathlib.Core.Path.{◌∙◌}
 use native.Mathlib.Omega.{arith}
-use borrow.Author.Rules.{rules}
 use Rattle.inst_memory.proofs.parse_alloca.Goals as goal
 
 pub returns-then-looks : goal.returns-then-looks

@@ -5,7 +5,6 @@ use native.Mathlib.Omega.{arith}
 use Rattle.lexer.proofs.Laws.{then, val, spare}
 use Rattle.node_words.proofs.Laws.{begin_then}
 use mathlib.Core.Path.{◌∙◌}
-use borrow.Author.Rules.{rules}
 use Rattle.inst_memory.proofs.parse_cmpxchg.Goals as goal
 
 pub end-requires : goal.end-requires

@@ -5,7 +5,6 @@ use mathlib.Core.List.{[], ◌∷◌}
 use Rattle.lexer.proofs.Laws.{then, val}
 use Rattle.node_words.proofs.Laws.{begin_then, push_then, patch_then}
 use Rattle.grammar.specs.Instructions.{parse_extractvalue}
-use borrow.Author.Rules.{rules}
 use Rattle.inst_memory.proofs.parse_extractvalue.Goals as goal
 
 pub end-requires : goal.end-requires

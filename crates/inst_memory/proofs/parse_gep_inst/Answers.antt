@@ -5,7 +5,6 @@ use Rattle.lexer.proofs.Laws.{then, val}
 use Rattle.node_words.proofs.Laws.{begin_then, close_is}
 use Rattle.types.proofs.TypeLaws.{type_then, stuck_token}
 use Rattle.grammar.specs.Instructions.{parse_gep_inst}
-use borrow.Author.Rules.{rules}
 use Rattle.inst_memory.proofs.parse_gep_inst.Goals as goal
 
 pub shape_of-words : goal.shape_of-words

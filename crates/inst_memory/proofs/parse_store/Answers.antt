@@ -1,5 +1,4 @@
 -- The form has the kinds and the number of children that the definition has.
-use borrow.Author.Rules.{rules}
 use Rattle.grammar.specs.Instructions.{parse_store}
 use Rattle.inst_memory.proofs.parse_store.Goals as goal
 

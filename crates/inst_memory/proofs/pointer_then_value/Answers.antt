@@ -7,7 +7,6 @@ use Rattle.types.proofs.TypeLaws.{type_then}
 use Rattle.grammar.specs.Instructions.{pointer_then_value}
 use Rattle.lexer.proofs.Laws.{then, val, done}
 use mathlib.Core.Path.{◌∙◌}
-use borrow.Author.Rules.{rules}
 use Rattle.inst_memory.proofs.pointer_then_value.Goals as goal
 
 pub shape_of-words : goal.shape_of-words

@@ -1,6 +1,5 @@
 -- An alignment that is there is pushed as its one word, and one that is not leaves cursor and words as they are.
 use Rattle.inst_memory.proofs.AllocaLaws.{no_align, some_align}
-use borrow.Author.Rules.{rules}
 use Rattle.inst_memory.proofs.push_align.Goals as goal
 
 pub returns-then-has-eq0 : goal.returns-then-has-eq0

@@ -2,7 +2,6 @@
 use Rattle.grammar.specs.Instructions.{rmw_op, rmw_ops}
 use Rattle.lexer.proofs.Laws.{g_then, g_done, g_fail}
 use Rattle.inst_memory.proofs.MemoryLaws.{among_yes, among_no}
-use borrow.Author.Rules.{rules}
 use Rattle.inst_memory.proofs.rmw_op.Goals as goal
 
 pub returns-then-r-lt-RMW_OPS : goal.returns-then-r-lt-RMW_OPS

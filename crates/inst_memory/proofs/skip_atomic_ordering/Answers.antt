@@ -3,7 +3,6 @@ use Rattle.grammar.specs.Instructions.{orderings, skip_atomic_ordering}
 use Rattle.lexer.specs.Table.{cut}
 use Rattle.inst_memory.specs.Ordering.{opt_scope}
 use Rattle.lexer.proofs.Laws.{g_then}
-use borrow.Author.Rules.{rules}
 use Rattle.inst_memory.proofs.skip_atomic_ordering.Goals as goal
 
 pub returns : goal.returns

@@ -1,7 +1,6 @@
 -- The calls are the definition's steps in the same order.
 use Rattle.lexer.proofs.Laws.{done, then, val}
 use Rattle.grammar.specs.Instructions.{store_operands}
-use borrow.Author.Rules.{rules}
 use Rattle.inst_memory.proofs.store_operands.Goals as goal
 
 pub returns : goal.returns

@@ -2,7 +2,6 @@
 use Rattle.grammar.specs.Instructions.{ending}
 use Rattle.lexer.proofs.Laws.{val}
 use Rattle.node_words.proofs.Laws.{close_is}
-use borrow.Author.Rules.{rules}
 use Rattle.inst_operands.proofs.end.Goals as goal
 
 pub returns : goal.returns

@@ -3,7 +3,6 @@ use Rattle.lexer.proofs.Laws.{done}
 use Rattle.node_words.proofs.Laws.{push_then}
 use Rattle.records.specs.Words.{node}
 use Rattle.grammar.specs.Instructions.{label_node}
-use borrow.Author.Rules.{rules}
 use Rattle.inst_operands.proofs.label_node.Goals as goal
 
 pub returns : goal.returns

@@ -4,7 +4,6 @@ use Rattle.lexer.proofs.Laws.{call}
 use Rattle.inst_operands.proofs.OperandLaws.{dropped, stuck_plain}
 use Rattle.records.specs.Limits.{list_depth}
 use Rattle.grammar.specs.Instructions.{parse_operand}
-use borrow.Author.Rules.{rules}
 use Rattle.inst_operands.proofs.parse_operand.Goals as goal
 
 pub returns : goal.returns

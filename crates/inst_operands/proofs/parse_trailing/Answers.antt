@@ -1,10 +1,6 @@
-use Rattle.records.specs.Limits.{turns}
 use Rattle.grammar.specs.Instructions.{clauses_in, parse_trailing}
-use Rattle.lexer.specs.Reads.{Comes}
 use Rattle.lexer.proofs.Laws.{g_done, g_stay, g_on, g_then, g_more, g_no_more}
-use mathlib.Core.List.{[]}
 use Rattle.inst_operands.specs.Trailing.{align_of, trailing}
-use borrow.Author.Rules.{rules}
 use Rattle.inst_operands.proofs.parse_trailing.Goals as goal
 
 pub loop-left-init : goal.loop-left-init

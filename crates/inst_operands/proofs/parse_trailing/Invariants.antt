@@ -1,11 +1,8 @@
 -- The invariant: all the clauses lead to those with `left` turns to go, behind the alignment so far; a clause takes one turn.
 use Rattle.records.specs.Limits.{turns}
-use Rattle.grammar.specs.Instructions.{clauses_in, parse_trailing}
 use Rattle.lexer.specs.Reads.{Comes}
-use Rattle.lexer.proofs.Laws.{g_done, g_stay, g_on, g_then, g_more, g_no_more}
 use mathlib.Core.List.{[]}
 use Rattle.inst_operands.specs.Trailing.{align_of, trailing}
-use borrow.Author.Rules.{rules}
 use Rattle.inst_operands.proofs.parse_trailing.Given as goal
 
 abbrev pub invariant-loop-left : goal.invariant-loop-left

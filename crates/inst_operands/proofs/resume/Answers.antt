@@ -1,5 +1,4 @@
 -- Case by case, the answer is that of `resumed`.
-use borrow.Author.Rules.{rules}
 use Rattle.inst_operands.proofs.resume.Goals as goal
 
 pub returns-in-Ok-p : goal.returns-in-Ok-p

@@ -1,7 +1,6 @@
 -- The code's calls are the definition's steps in the same order: the comma, `label`, the name.
 use Rattle.grammar.specs.Instructions.{target}
 use Rattle.lexer.proofs.Laws.{g_then}
-use borrow.Author.Rules.{rules}
 use Rattle.inst_operands.proofs.target.Goals as goal
 
 pub returns : goal.returns

@@ -5,7 +5,6 @@ use Rattle.grammar.specs.Lexer.{refuse}
 use Rattle.grammar.specs.Instructions.{clauses_in}
 use Rattle.lexer.proofs.Laws.{true_false, g_then, g_done, g_stay, g_byte_yes, g_byte_no, g_word_yes, g_word_no, g_token_yes, g_token_no, g_fail}
 use mathlib.Core.Path.{sym}
-use borrow.Author.Rules.{rules}
 use Rattle.inst_operands.proofs.trail_step.Goals as goal
 
 pub returns-then-word : goal.returns-then-word

@@ -1,7 +1,6 @@
 -- The operands, then the end, whatever the destination.
 use Rattle.lexer.proofs.Laws.{then}
 use Rattle.grammar.specs.Instructions.{binary}
-use borrow.Author.Rules.{rules}
 use Rattle.inst_operations.proofs.binary.Goals as goal
 
 pub returns : goal.returns

@@ -2,7 +2,6 @@
 use Rattle.lexer.proofs.Laws.{val}
 use Rattle.node_words.proofs.Laws.{begin_then}
 use Rattle.grammar.specs.Instructions.{parse_bin}
-use borrow.Author.Rules.{rules}
 use Rattle.inst_operations.proofs.parse_bin.Goals as goal
 
 pub returns : goal.returns

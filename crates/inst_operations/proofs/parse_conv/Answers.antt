@@ -4,7 +4,6 @@ use Rattle.node_words.proofs.Laws.{begin_then}
 use Rattle.types.proofs.TypeLaws.{type_then}
 use Rattle.inst_operands.proofs.OperandLaws.{stuck_paren}
 use Rattle.grammar.specs.Instructions.{no_paren, parse_conv}
-use borrow.Author.Rules.{rules}
 use Rattle.inst_operations.proofs.parse_conv.Goals as goal
 
 pub returns-then-looks : goal.returns-then-looks

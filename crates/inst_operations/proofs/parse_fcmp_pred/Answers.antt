@@ -2,7 +2,6 @@
 use Rattle.grammar.specs.Instructions.{predicate, fcmp_preds}
 use Rattle.lexer.proofs.Laws.{g_then, g_done, g_fail}
 use Rattle.lexer_keywords.proofs.Ranks.{g_rank_yes, g_rank_no}
-use borrow.Author.Rules.{rules}
 use Rattle.inst_operations.proofs.parse_fcmp_pred.Goals as goal
 
 pub returns-then-r-lt16 : goal.returns-then-r-lt16

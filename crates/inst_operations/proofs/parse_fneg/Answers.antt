@@ -2,7 +2,6 @@
 use Rattle.lexer.proofs.Laws.{val}
 use Rattle.node_words.proofs.Laws.{begin_then}
 use Rattle.grammar.specs.Instructions.{parse_fneg}
-use borrow.Author.Rules.{rules}
 use Rattle.inst_operations.proofs.parse_fneg.Goals as goal
 
 pub returns : goal.returns

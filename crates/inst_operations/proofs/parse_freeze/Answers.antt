@@ -1,7 +1,6 @@
 -- The code's calls are the definition's steps in the same order: slot and destination, the typed value to the end.
 use Rattle.node_words.proofs.Laws.{begin_then}
 use Rattle.grammar.specs.Instructions.{parse_freeze}
-use borrow.Author.Rules.{rules}
 use Rattle.inst_operations.proofs.parse_freeze.Goals as goal
 
 pub returns : goal.returns

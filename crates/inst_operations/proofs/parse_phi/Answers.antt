@@ -4,7 +4,6 @@ use Rattle.node_words.proofs.Laws.{begin_then, close_is}
 use Rattle.types.proofs.TypeLaws.{type_then}
 use Rattle.inst_operations.proofs.PhiLaws.{stuck_items}
 use Rattle.grammar.specs.Instructions.{parse_phi}
-use borrow.Author.Rules.{rules}
 use Rattle.inst_operations.proofs.parse_phi.Goals as goal
 
 pub returns : goal.returns

@@ -3,7 +3,6 @@ use mathlib.Core.Path.{◌∙◌}
 use Rattle.lexer.proofs.Laws.{then, val}
 use Rattle.node_words.proofs.Laws.{begin_then}
 use Rattle.grammar.specs.Instructions.{parse_select}
-use borrow.Author.Rules.{rules}
 use Rattle.inst_operations.proofs.parse_select.Goals as goal
 
 pub shape_of-words : goal.shape_of-words

@@ -1,12 +1,8 @@
 use native.Mathlib.Omega.{arith}
-use borrow.Author.Rules.{rules}
-use mathlib.Core.Path.{◌≡◌, refl, ◌∙◌}
-use mathlib.Core.List.{[]}
-use lib.ListN.{length}
+use mathlib.Core.Path.{refl, ◌∙◌}
 use Rattle.lexer.proofs.Laws.{stay, go_on}
 use Rattle.inst_operations.proofs.PhiLaws.{items_more, items_end, items_out}
 use Rattle.grammar.specs.Instructions.{phi_items}
-use Rattle.lexer.specs.Reads.{Leads, reach}
 use Rattle.inst_operations.proofs.phi_items.Goals as goal
 
 pub loop-left-init : goal.loop-left-init

@@ -1,11 +1,7 @@
 -- The invariant: all the pairs lead to those with `left` turns to go, behind the n children counted so far; a pair takes one turn and counts two.
-use native.Mathlib.Omega.{arith}
-use borrow.Author.Rules.{rules}
-use mathlib.Core.Path.{◌≡◌, refl, ◌∙◌}
+use mathlib.Core.Path.{◌≡◌}
 use mathlib.Core.List.{[]}
 use lib.ListN.{length}
-use Rattle.lexer.proofs.Laws.{stay, go_on}
-use Rattle.inst_operations.proofs.PhiLaws.{items_more, items_end, items_out}
 use Rattle.grammar.specs.Instructions.{phi_items}
 use Rattle.lexer.specs.Reads.{Leads, reach}
 use Rattle.inst_operations.proofs.phi_items.Given as goal

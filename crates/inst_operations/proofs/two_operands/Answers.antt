@@ -4,7 +4,6 @@ use Rattle.types.proofs.TypeLaws.{type_then}
 use Rattle.values.proofs.ValueLaws.{stuck_value}
 use Rattle.records.specs.Limits.{list_depth}
 use Rattle.grammar.specs.Instructions.{two_operands}
-use borrow.Author.Rules.{rules}
 use Rattle.inst_operations.proofs.two_operands.Goals as goal
 
 pub returns : goal.returns

@@ -1,7 +1,6 @@
 -- The typed value, then the end, whatever the destination.
 use Rattle.lexer.proofs.Laws.{then}
 use Rattle.grammar.specs.Instructions.{unary}
-use borrow.Author.Rules.{rules}
 use Rattle.inst_operations.proofs.unary.Goals as goal
 
 pub returns : goal.returns

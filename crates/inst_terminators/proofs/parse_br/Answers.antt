@@ -6,7 +6,6 @@ use Rattle.node_words.proofs.Laws.{push_then}
 use Rattle.lexer_names.proofs.Passed.{passes_local}
 use Rattle.inst_operands.proofs.LabelLaws.{passes_target}
 use Rattle.grammar.specs.Instructions.{parse_br}
-use borrow.Author.Rules.{rules}
 use Rattle.inst_terminators.proofs.parse_br.Goals as goal
 
 pub returns-then-word : goal.returns-then-word

@@ -3,7 +3,6 @@ use native.Mathlib.Omega.{arith}
 use Rattle.lexer.proofs.Laws.{then, val, spare, word_yes, word_no}
 use Rattle.node_words.proofs.Laws.{push_then}
 use Rattle.grammar.specs.Instructions.{parse_ret}
-use borrow.Author.Rules.{rules}
 use Rattle.inst_terminators.proofs.parse_ret.Goals as goal
 
 pub returns-then-word : goal.returns-then-word

@@ -1,7 +1,6 @@
 -- The end stands behind the header's slot, as in the definition.
 use Rattle.node_words.proofs.Laws.{push_then}
 use Rattle.grammar.specs.Instructions.{parse_unreachable}
-use borrow.Author.Rules.{rules}
 use Rattle.inst_terminators.proofs.parse_unreachable.Goals as goal
 
 pub returns : goal.returns

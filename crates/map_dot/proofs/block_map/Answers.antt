@@ -1,7 +1,6 @@
 -- The text's end says whether it fits, and zeros stand behind it.
 use Rattle.map_spec.specs.Buffer.{block_map}
 use Rattle.map_dot.proofs.Outcomes.{whole, over_limit, over_room}
-use borrow.Author.Rules.{rules}
 use Rattle.map_dot.proofs.block_map.Goals as goal
 use Rattle.map_dot.proofs.block_map.Goals.{then-n-le-TEXT_LIMIT+else-n-out, else-n-le-TEXT_LIMIT}
 

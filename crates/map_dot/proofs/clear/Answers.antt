@@ -1,8 +1,6 @@
-use mathlib.Core.Path.{◌≡◌, refl, ◌∙◌}
-use Prim.Native.Nat.{◌-◌}
-use lib.ListN.{length, length-set}
-use Rattle.map_dot.proofs.Zeros.{cleared, cleared_more, cleared_all}
-use borrow.Author.Rules.{rules}
+use mathlib.Core.Path.{refl, ◌∙◌}
+use lib.ListN.{length-set}
+use Rattle.map_dot.proofs.Zeros.{cleared_more, cleared_all}
 use Rattle.map_dot.proofs.clear.Goals as goal
 
 pub loop-i-init : goal.loop-i-init

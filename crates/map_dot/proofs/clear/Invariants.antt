@@ -1,9 +1,8 @@
 -- The bytes before i, and zeros from there on, are what is wanted.
-use mathlib.Core.Path.{◌≡◌, refl, ◌∙◌}
+use mathlib.Core.Path.{◌≡◌}
 use Prim.Native.Nat.{◌-◌}
-use lib.ListN.{length, length-set}
-use Rattle.map_dot.proofs.Zeros.{cleared, cleared_more, cleared_all}
-use borrow.Author.Rules.{rules}
+use lib.ListN.{length}
+use Rattle.map_dot.proofs.Zeros.{cleared}
 use Rattle.map_dot.proofs.clear.Given as goal
 
 abbrev pub invariant-loop-i : goal.invariant-loop-i

@@ -1,15 +1,12 @@
-use mathlib.Core.Path.{◌≡◌, refl, ap, ◌∙◌}
+use mathlib.Core.Path.{◌≡◌, refl, ◌∙◌}
 use Prim.Native.Nat.{◌+◌, ◌-◌, ◌*◌}
 use native.Mathlib.Omega.{arith}
 use lib.ListN.{length, get_or, drop}
 use Rattle.records.specs.Limits.{entry_words}
-use Rattle.buffer.specs.Stored.{stored, placed, Stores}
-use Rattle.map_spec.specs.Drawing.{lines_of}
-use Rattle.map_spec.specs.Blocks.{behind_node, blocks_from}
+use Rattle.buffer.specs.Stored.{Stores}
 use Rattle.map_dot.specs.Views.{sort_of_lines}
 use Rattle.map_dot.proofs.Ends.{done, past}
-use Rattle.map_dot.proofs.Lines.{block, lines_from, turn, edges_shown, nodes_shown, lines_over, lines_done}
-use borrow.Author.Rules.{rules}
+use Rattle.map_dot.proofs.Lines.{block, turn, edges_shown, nodes_shown, lines_over, lines_done}
 use Rattle.map_dot.proofs.put_lines.Goals as goal
 use Rattle.map_dot.proofs.put_lines.Goals.{then-edges, else-edges}
 

@@ -1,17 +1,13 @@
 -- The lines still to be stored, from where the code has come to, give what all give from the start.
-use mathlib.Core.Path.{◌≡◌, refl, ap, ◌∙◌}
-use mathlib.Core.Logic.{⊎_elim}
-use Prim.Native.Nat.{◌+◌, ◌-◌, ◌*◌}
-use native.Mathlib.Omega.{arith}
-use lib.ListN.{length, get_or, drop}
+use mathlib.Core.Path.{◌≡◌}
+use Prim.Native.Nat.{◌-◌}
+use lib.ListN.{length, drop}
 use Rattle.records.specs.Limits.{entry_words}
-use Rattle.buffer.specs.Stored.{stored, placed, Stores}
+use Rattle.buffer.specs.Stored.{stored, placed}
 use Rattle.map_spec.specs.Drawing.{lines_of}
 use Rattle.map_spec.specs.Blocks.{behind_node, blocks_from}
 use Rattle.map_dot.specs.Views.{sort_of_lines}
-use Rattle.map_dot.proofs.Ends.{done, past}
-use Rattle.map_dot.proofs.Lines.{block, lines_from, turn, edges_shown, nodes_shown, lines_over, lines_done}
-use borrow.Author.Rules.{rules}
+use Rattle.map_dot.proofs.Lines.{lines_from}
 use Rattle.map_dot.proofs.put_lines.Given as goal
 
 abbrev pub invariant-loop-i : goal.invariant-loop-i

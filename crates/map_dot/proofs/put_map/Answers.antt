@@ -2,7 +2,6 @@
 use Rattle.buffer.specs.Laws.{and_then}
 use Rattle.map_spec.specs.Drawing.{drawing}
 use Rattle.map_spec.specs.Blocks.{blocks_in, map_in}
-use borrow.Author.Rules.{rules}
 use Rattle.map_dot.proofs.put_map.Goals as goal
 
 pub returns : goal.returns

@@ -1,7 +1,6 @@
 -- The calls, one behind the other.
 use Rattle.buffer.specs.Laws.{and_then}
 use Rattle.map_spec.specs.Drawing.{node_line}
-use borrow.Author.Rules.{rules}
 use Rattle.map_dot.proofs.put_node.Goals as goal
 
 pub returns : goal.returns

@@ -1,5 +1,4 @@
 -- By the literal: hex digits make no integer.
-use borrow.Author.Rules.{rules}
 use Rattle.number_hex.proofs.HexLaws.{bits_int, bits_float, bits_out}
 use Rattle.number_hex.proofs.bits_of.Goals as goal
 

@@ -1,10 +1,5 @@
-use Prim.Native.Nat.{◌-◌}
-use lib.ListN.{length}
-use borrow.Author.Rules.{rules}
-use Rattle.grammar.specs.Numbers.{hex_step}
-use Rattle.number_integers.specs.Hex.{hex_held, hex_folded}
 use Rattle.number_hex.proofs.HexLaws.{hex_here, hex_kept, hex_more, hex_stop, hex_out}
-use Rattle.lexer.proofs.Folding.{Folding, folding_start}
+use Rattle.lexer.proofs.Folding.{folding_start}
 use Rattle.number_hex.proofs.hex_digits.Goals as goal
 
 pub loop-i-init : goal.loop-i-init

@@ -1,11 +1,9 @@
 -- The invariant `Folding`: scan and fold from i on, in the state so far, end as they do from the start.
 use Prim.Native.Nat.{◌-◌}
 use lib.ListN.{length}
-use borrow.Author.Rules.{rules}
 use Rattle.grammar.specs.Numbers.{hex_step}
 use Rattle.number_integers.specs.Hex.{hex_held, hex_folded}
-use Rattle.number_hex.proofs.HexLaws.{hex_here, hex_kept, hex_more, hex_stop, hex_out}
-use Rattle.lexer.proofs.Folding.{Folding, folding_start}
+use Rattle.lexer.proofs.Folding.{Folding}
 use Rattle.number_hex.proofs.hex_digits.Given as goal
 
 abbrev pub invariant-loop-i : goal.invariant-loop-i

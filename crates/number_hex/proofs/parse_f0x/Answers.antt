@@ -1,5 +1,4 @@
 -- The digits folded, and their literal.
-use borrow.Author.Rules.{rules}
 use Rattle.number_hex.proofs.HexLaws.{bits_f0x}
 use Rattle.number_hex.proofs.parse_f0x.Goals as goal
 

@@ -4,7 +4,6 @@ use lib.ListN.{drop}
 use Rattle.grammar.specs.Function.{block_at}
 use Rattle.piece_directory.proofs.Stretch.{to_end}
 use Rattle.piece_block.proofs.PartLaws.{block_dry}
-use borrow.Author.Rules.{rules}
 use Rattle.piece_block.proofs.block_dry.Goals as goal
 
 pub returns : goal.returns

@@ -5,7 +5,6 @@ use borrow.Rule.Slice.PartMut.{mid_len}
 use Rattle.grammar.specs.Function.{block_at}
 use Rattle.piece_directory.proofs.Stretch.{to_end}
 use Rattle.piece_block.proofs.PartLaws.{block_in}
-use borrow.Author.Rules.{rules}
 use Rattle.piece_block.proofs.block_in.Goals as goal
 
 pub returns : goal.returns

@@ -1,15 +1,9 @@
-use mathlib.Core.Path.{◌≡◌, refl, ◌∙◌}
-use mathlib.Core.List.{[]}
-use Prim.Native.Nat.{◌+◌, ◌≤◌}
+use mathlib.Core.Path.{refl, ◌∙◌}
 use native.Mathlib.Omega.{arith}
-use lib.ListN.{length}
 use Rattle.grammar.specs.Body.{parse_body}
-use Rattle.lexer.specs.Reads.{Leads, reach}
 use Rattle.lexer.proofs.Laws.{stay}
-use Rattle.inst_operands.specs.Rich.{richly}
 use Rattle.inst_operands.proofs.RichLaws.{enrich}
 use Rattle.piece_block.proofs.BlockLaws.{lead_anew, body_tail, body_label, body_instruction, body_terminator, body_out}
-use borrow.Author.Rules.{rules}
 use Rattle.piece_block.proofs.parse_body.Goals as goal
 
 pub loop-left-init : goal.loop-left-init

@@ -1,17 +1,12 @@
 -- The invariant: the definition with all its turns is the definition from `q` with those left, the last label and the instructions written so far;
 -- instructions and turns left are together no more than the turns, so the count does not overflow.
-use mathlib.Core.Path.{◌≡◌, refl, ◌∙◌}
+use mathlib.Core.Path.{◌≡◌}
 use mathlib.Core.List.{[]}
 use Prim.Native.Nat.{◌+◌, ◌≤◌}
-use native.Mathlib.Omega.{arith}
 use lib.ListN.{length}
 use Rattle.grammar.specs.Body.{parse_body}
 use Rattle.lexer.specs.Reads.{Leads, reach}
-use Rattle.lexer.proofs.Laws.{stay}
 use Rattle.inst_operands.specs.Rich.{richly}
-use Rattle.inst_operands.proofs.RichLaws.{enrich}
-use Rattle.piece_block.proofs.BlockLaws.{lead_anew, body_tail, body_label, body_instruction, body_terminator, body_out}
-use borrow.Author.Rules.{rules}
 use Rattle.piece_block.proofs.parse_body.Given as goal
 
 abbrev pub invariant-loop-left : goal.invariant-loop-left

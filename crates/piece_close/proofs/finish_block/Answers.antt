@@ -5,7 +5,6 @@ use mathlib.Core.List.{[], ◌∷◌}
 use Rattle.node_words.proofs.Laws.{patch_then, close_then}
 use Rattle.lexer.proofs.Laws.{fail_at, fail_is, done, turn}
 use Rattle.piece_close.proofs.FinishLaws.{finish_in, finish_over, finish_full}
-use borrow.Author.Rules.{rules}
 use Rattle.piece_close.proofs.finish_block.Goals as goal
 
 pub returns-then-n-lt-CHILDREN : goal.returns-then-n-lt-CHILDREN

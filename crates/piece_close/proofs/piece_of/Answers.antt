@@ -1,5 +1,4 @@
 -- Case by case, the answer is that of `piece_of`.
-use borrow.Author.Rules.{rules}
 use Rattle.piece_close.proofs.piece_of.Goals as goal
 
 pub returns-in-Ok : goal.returns-in-Ok

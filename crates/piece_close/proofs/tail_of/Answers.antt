@@ -1,5 +1,4 @@
 -- Each form of the answer is one line of `tail_of`.
-use borrow.Author.Rules.{rules}
 use Rattle.piece_close.proofs.tail_of.Goals as goal
 
 pub returns-in-Ok : goal.returns-in-Ok

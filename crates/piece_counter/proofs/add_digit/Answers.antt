@@ -1,6 +1,5 @@
 -- The definition makes the same test, and below 2^32 a digit more does not overflow.
 use borrow.Author.Tests.{lt-ltb, le-ltb}
-use borrow.Author.Rules.{rules}
 use Rattle.piece_counter.proofs.add_digit.Goals as goal
 
 pub returns-then-v-lt-COUNTER_LIMIT : goal.returns-then-v-lt-COUNTER_LIMIT

@@ -1,7 +1,6 @@
 -- The calls are the definition's steps in the same order.
 use Rattle.grammar.specs.Counter.{counted_name}
 use Rattle.lexer.proofs.Laws.{g_place, g_then, g_done}
-use borrow.Author.Rules.{rules}
 use Rattle.piece_counter.proofs.counted_name.Goals as goal
 
 pub returns : goal.returns

@@ -2,7 +2,6 @@
 use mathlib.Core.Path.{sym}
 use Rattle.piece_counter.proofs.CounterLaws.{named_as}
 use Rattle.lexer_keywords.proofs.Ranks.{part_is, part_none}
-use borrow.Author.Rules.{rules}
 use Rattle.piece_counter.proofs.name_counter.Goals as goal
 
 pub returns-then-from-end : goal.returns-then-from-end

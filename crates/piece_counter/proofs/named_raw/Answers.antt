@@ -1,7 +1,6 @@
 -- A name in quotes begins with a quote, which is no digit.
 use mathlib.Core.Path.{sym, ◌∙◌}
 use Rattle.piece_counter.proofs.CounterLaws.{named_number, named_other, takes_near}
-use borrow.Author.Rules.{rules}
 use Rattle.piece_counter.proofs.named_raw.Goals as goal
 
 pub returns-then-n : goal.returns-then-n

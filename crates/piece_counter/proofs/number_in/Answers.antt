@@ -1,8 +1,5 @@
-use Prim.Native.Nat.{◌-◌}
 use native.Mathlib.Omega.{arith}
-use lib.ListN.{length}
-use Rattle.piece_counter.proofs.CounterLaws.{Digits, digits_none, digits_more, digits_not, digits_all}
-use borrow.Author.Rules.{rules}
+use Rattle.piece_counter.proofs.CounterLaws.{digits_none, digits_more, digits_not, digits_all}
 use Rattle.piece_counter.proofs.number_in.Goals as goal
 
 pub loop-i-init : goal.loop-i-init

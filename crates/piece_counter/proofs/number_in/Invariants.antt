@@ -1,9 +1,7 @@
 -- The invariant `Digits`: what the digits so far write, as far as it is kept, and that the bytes left decide the rest.
 use Prim.Native.Nat.{◌-◌}
-use native.Mathlib.Omega.{arith}
 use lib.ListN.{length}
-use Rattle.piece_counter.proofs.CounterLaws.{Digits, digits_none, digits_more, digits_not, digits_all}
-use borrow.Author.Rules.{rules}
+use Rattle.piece_counter.proofs.CounterLaws.{Digits}
 use Rattle.piece_counter.proofs.number_in.Given as goal
 
 abbrev pub invariant-loop-i : goal.invariant-loop-i

@@ -1,6 +1,5 @@
 -- The definition makes the same two tests.
 use Rattle.piece_counter.proofs.CounterLaws.{takes_yes, takes_low, takes_high}
-use borrow.Author.Rules.{rules}
 use Rattle.piece_counter.proofs.take.Goals as goal
 
 pub returns-then-v-c : goal.returns-then-v-c

@@ -1,6 +1,5 @@
 -- The next number is the counter itself.
 use Rattle.grammar.specs.Counter.{takes_next}
-use borrow.Author.Rules.{rules}
 use Rattle.piece_counter.proofs.take_next.Goals as goal
 
 pub returns : goal.returns

@@ -1,7 +1,6 @@
 -- An array of no words holds none of the piece's, and their number is told all the same.
 use mathlib.Core.Path.{refl}
 use Rattle.piece_head.proofs.PartLaws.{head_dry}
-use borrow.Author.Rules.{rules}
 use Rattle.piece_head.proofs.head_dry.Goals as goal
 
 pub returns : goal.returns

@@ -2,7 +2,6 @@
 use mathlib.Core.Path.{refl, ◌∙◌}
 use borrow.Rule.Slice.PartMut.{mid_len}
 use Rattle.piece_head.proofs.PartLaws.{head_in}
-use borrow.Author.Rules.{rules}
 use Rattle.piece_head.proofs.head_in.Goals as goal
 
 pub returns : goal.returns

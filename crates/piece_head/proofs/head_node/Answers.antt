@@ -8,7 +8,6 @@ use Rattle.node_words.proofs.Laws.{push_then, patch_then}
 use Rattle.lexer_names.proofs.Passed.{passes_token}
 use Rattle.types.proofs.TypeLaws.{type_then}
 use Rattle.piece_head.proofs.HeadLaws.{then_paid, linkage_as, stuck_name, shut_is, open_is}
-use borrow.Author.Rules.{rules}
 use Rattle.piece_head.proofs.head_node.Goals as goal
 
 pub parse_global_name-name-requires : goal.parse_global_name-name-requires

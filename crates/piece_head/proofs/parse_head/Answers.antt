@@ -1,6 +1,5 @@
 -- The head's reader is called at the start of the text, with the header's word and the name's paid for, and `piece_of` passes its answer on.
 use Rattle.piece_head.proofs.HeadLaws.{head_is}
-use borrow.Author.Rules.{rules}
 use Rattle.piece_head.proofs.parse_head.Goals as goal
 
 pub returns : goal.returns

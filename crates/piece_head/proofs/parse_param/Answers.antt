@@ -5,7 +5,6 @@ use Rattle.grammar.specs.Body.{param_of, parse_param}
 use Rattle.lexer.proofs.Laws.{val, byte_yes, byte_no, place_at, done}
 use Rattle.node_words.proofs.Laws.{push_then, patch_then, close_then}
 use Rattle.piece_head.proofs.HeadLaws.{param_type, still_param}
-use borrow.Author.Rules.{rules}
 use Rattle.piece_head.proofs.parse_param.Goals as goal
 
 pub shape_of-words-then-looks : goal.shape_of-words-then-looks

@@ -1,12 +1,8 @@
-use borrow.Author.Rules.{rules}
-use mathlib.Core.Path.{◌≡◌, refl, ◌∙◌}
-use mathlib.Core.List.{[]}
+use mathlib.Core.Path.{refl, ◌∙◌}
 use native.Mathlib.Omega.{arith}
-use lib.ListN.{length}
 use Rattle.grammar.specs.Body.{parse_params, parse_param_list}
-use Rattle.lexer.specs.Reads.{Leads, reach}
 use Rattle.lexer.proofs.Laws.{done, val, byte_yes, byte_no, call}
-use Rattle.piece_head.proofs.HeadLaws.{paying, stay_paid, go_on_paid, params_dots, params_out, params_more, params_end}
+use Rattle.piece_head.proofs.HeadLaws.{stay_paid, go_on_paid, params_dots, params_out, params_more, params_end}
 use Rattle.piece_head.proofs.parse_param_list.Goals as goal
 
 pub returns-then-looks : goal.returns-then-looks

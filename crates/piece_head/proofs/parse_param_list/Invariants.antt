@@ -1,13 +1,10 @@
 -- The invariant: all the parameters lead to those with `left` turns to go, behind the n counted so far and with two words paid for.
-use borrow.Author.Rules.{rules}
-use mathlib.Core.Path.{◌≡◌, refl, ◌∙◌}
+use mathlib.Core.Path.{◌≡◌}
 use mathlib.Core.List.{[]}
-use native.Mathlib.Omega.{arith}
 use lib.ListN.{length}
-use Rattle.grammar.specs.Body.{parse_params, parse_param_list}
+use Rattle.grammar.specs.Body.{parse_params}
 use Rattle.lexer.specs.Reads.{Leads, reach}
-use Rattle.lexer.proofs.Laws.{done, val, byte_yes, byte_no, call}
-use Rattle.piece_head.proofs.HeadLaws.{paying, stay_paid, go_on_paid, params_dots, params_out, params_more, params_end}
+use Rattle.piece_head.proofs.HeadLaws.{paying}
 use Rattle.piece_head.proofs.parse_param_list.Given as goal
 
 abbrev pub invariant-loop-left : goal.invariant-loop-left

@@ -3,7 +3,6 @@ use mathlib.Core.Path.{sym, ap, ◌∙◌}
 use Prim.Native.Nat.{◌+◌}
 use Rattle.piece_room.specs.Rooms.{after_room}
 use Rattle.piece_room.specs.declared.Room.{Room}
-use borrow.Author.Rules.{rules}
 use Rattle.piece_room.proofs.ask.Goals as goal
 
 pub returns-in-Fits : goal.returns-in-Fits

@@ -2,7 +2,6 @@
 use mathlib.Core.Path.{sym}
 use native.Mathlib.Omega.{arith}
 use Rattle.piece_room.proofs.Judge.{no_words, no_number, no_entry, fits}
-use borrow.Author.Rules.{rules}
 use Rattle.piece_room.proofs.room_for.Goals as goal
 
 pub returns-then-lent-word : goal.returns-then-lent-word

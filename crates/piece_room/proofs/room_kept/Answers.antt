@@ -1,12 +1,11 @@
 use mathlib.Core.Path.{refl, sym, ◌∙◌}
-use Prim.Native.Nat.{◌+◌, ◌-◌, ◌*◌, ◌%◌}
+use Prim.Native.Nat.{◌+◌, ◌*◌, ◌%◌}
 use native.Mathlib.Omega.{arith}
 use lib.ListN.{length, drop, get_or}
 use Rattle.records.specs.Limits.{entry_words}
 use Rattle.records.specs.Pieces.{judge}
 use Rattle.piece_directory.specs.Olds.{olds_of}
-use Rattle.piece_room.proofs.Judge.{sizes_of, fitting, Judging, judging_end, judging_words, judging_entry, judging_next, place_small}
-use borrow.Author.Rules.{rules}
+use Rattle.piece_room.proofs.Judge.{sizes_of, fitting, judging_end, judging_words, judging_entry, judging_next, place_small}
 use Rattle.piece_room.proofs.room_kept.Goals as goal
 
 pub loop-k-init : goal.loop-k-init

@@ -1,13 +1,9 @@
 -- The invariant: the verdict on all old pieces is that on those from k on, at the place that the loop has.
-use mathlib.Core.Path.{refl, sym, ◌∙◌}
-use Prim.Native.Nat.{◌+◌, ◌-◌, ◌*◌, ◌%◌}
-use native.Mathlib.Omega.{arith}
-use lib.ListN.{length, drop, get_or}
-use Rattle.records.specs.Limits.{entry_words}
+use Prim.Native.Nat.{◌-◌}
+use lib.ListN.{length, drop}
 use Rattle.records.specs.Pieces.{judge}
 use Rattle.piece_directory.specs.Olds.{olds_of}
-use Rattle.piece_room.proofs.Judge.{sizes_of, fitting, Judging, judging_end, judging_words, judging_entry, judging_next, place_small}
-use borrow.Author.Rules.{rules}
+use Rattle.piece_room.proofs.Judge.{sizes_of, Judging}
 use Rattle.piece_room.proofs.room_kept.Given as goal
 
 abbrev pub invariant-loop-k : goal.invariant-loop-k

@@ -1,6 +1,5 @@
 -- Each form of the answer is printed as the reading that it says.
 use Rattle.pieces.proofs.ShowLaws.{shown_accepted, shown_refused}
-use borrow.Author.Rules.{rules}
 use Rattle.pieces.proofs.show.Goals as goal
 
 pub returns-in-Accepted : goal.returns-in-Accepted

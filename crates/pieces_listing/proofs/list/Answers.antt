@@ -1,7 +1,6 @@
 -- The calls, one behind the other.
 use Rattle.pieces_listing.specs.Lines.{listing}
 use Rattle.buffer.specs.Laws.{and_then}
-use borrow.Author.Rules.{rules}
 use Rattle.pieces_listing.proofs.list.Goals as goal
 
 pub returns : goal.returns

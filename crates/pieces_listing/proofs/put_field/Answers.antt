@@ -1,7 +1,6 @@
 -- The two calls, one behind the other.
 use Rattle.pieces_listing.specs.Lines.{field}
 use Rattle.buffer.specs.Laws.{and_then}
-use borrow.Author.Rules.{rules}
 use Rattle.pieces_listing.proofs.put_field.Goals as goal
 
 pub returns : goal.returns

@@ -1,7 +1,6 @@
 -- The calls, one behind the other.
 use Rattle.pieces_listing.specs.Lines.{piece_line}
 use Rattle.buffer.specs.Laws.{and_then}
-use borrow.Author.Rules.{rules}
 use Rattle.pieces_listing.proofs.put_piece.Goals as goal
 
 pub returns : goal.returns

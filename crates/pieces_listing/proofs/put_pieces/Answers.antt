@@ -1,13 +1,12 @@
 use mathlib.Core.Path.{◌≡◌, refl, ◌∙◌}
 use Prim.Native.Nat.{◌+◌, ◌-◌, ◌*◌}
 use native.Mathlib.Omega.{arith}
-use lib.ListN.{length, drop}
+use lib.ListN.{drop}
 use Rattle.records.specs.Limits.{entry_words}
 use Rattle.buffer.specs.Stored.{stored, placed}
 use Rattle.pieces_listing.specs.Lines.{piece_lines}
 use Rattle.buffer.specs.Laws.{went_on}
 use Rattle.pieces_listing.proofs.Laws.{next_line, lines_over, lines_done}
-use borrow.Author.Rules.{rules}
 use Rattle.pieces_listing.proofs.put_pieces.Goals as goal
 
 pub loop-i-init : goal.loop-i-init

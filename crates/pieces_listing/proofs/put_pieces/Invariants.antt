@@ -1,14 +1,10 @@
 -- The lines still to be stored, from where the code has come to, give what all give from the start.
-use mathlib.Core.Path.{◌≡◌, refl, ◌∙◌}
-use Prim.Native.Nat.{◌+◌, ◌-◌, ◌*◌}
-use native.Mathlib.Omega.{arith}
+use mathlib.Core.Path.{◌≡◌}
+use Prim.Native.Nat.{◌-◌, ◌*◌}
 use lib.ListN.{length, drop}
 use Rattle.records.specs.Limits.{entry_words}
 use Rattle.buffer.specs.Stored.{stored, placed}
 use Rattle.pieces_listing.specs.Lines.{piece_lines}
-use Rattle.buffer.specs.Laws.{went_on}
-use Rattle.pieces_listing.proofs.Laws.{next_line, lines_over, lines_done}
-use borrow.Author.Rules.{rules}
 use Rattle.pieces_listing.proofs.put_pieces.Given as goal
 
 abbrev pub invariant-loop-i : goal.invariant-loop-i

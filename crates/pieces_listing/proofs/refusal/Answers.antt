@@ -2,7 +2,6 @@
 use mathlib.Core.Path.{◌∙◌}
 use Rattle.pieces_listing.specs.Lines.{refusal_line}
 use Rattle.buffer.specs.Laws.{and_then}
-use borrow.Author.Rules.{rules}
 use Rattle.pieces_listing.proofs.refusal.Goals as goal
 
 pub shape_of-out : goal.shape_of-out

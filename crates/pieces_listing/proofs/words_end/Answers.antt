@@ -1,11 +1,8 @@
 use mathlib.Core.Path.{◌≡◌, sym, ◌∙◌}
 use Prim.Native.Nat.{◌+◌, ◌-◌, ◌*◌}
 use native.Mathlib.Omega.{arith}
-use lib.ListN.{drop}
 use Rattle.records.specs.Limits.{entry_words}
-use Rattle.pieces_listing.specs.Lines.{words_end}
 use Rattle.pieces_listing.proofs.Laws.{next_end, end_over, end_done}
-use borrow.Author.Rules.{rules}
 use Rattle.pieces_listing.proofs.words_end.Goals as goal
 
 pub loop-i-init : goal.loop-i-init

@@ -1,12 +1,9 @@
 -- Where the words still to be counted end, from where the code has come to, is where all end.
-use mathlib.Core.Path.{◌≡◌, sym, ◌∙◌}
-use Prim.Native.Nat.{◌+◌, ◌-◌, ◌*◌}
-use native.Mathlib.Omega.{arith}
+use mathlib.Core.Path.{◌≡◌}
+use Prim.Native.Nat.{◌-◌, ◌*◌}
 use lib.ListN.{drop}
 use Rattle.records.specs.Limits.{entry_words}
 use Rattle.pieces_listing.specs.Lines.{words_end}
-use Rattle.pieces_listing.proofs.Laws.{next_end, end_over, end_done}
-use borrow.Author.Rules.{rules}
 use Rattle.pieces_listing.proofs.words_end.Given as goal
 
 abbrev pub invariant-loop-i : goal.invariant-loop-i

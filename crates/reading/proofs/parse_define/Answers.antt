@@ -6,7 +6,6 @@ use Rattle.text_whole.specs.Verdicts.{verdict}
 use Rattle.reading_full.specs.Full.{Ended}
 use Rattle.text_whole.proofs.Texts.{not_long}
 use Rattle.reading_full.proofs.Whole.{refused_text, refused_stopped, accepted}
-use borrow.Author.Rules.{rules}
 use Rattle.reading.proofs.parse_define.Goals as goal
 
 pub read_pieces-requires : goal.read_pieces-requires

@@ -6,7 +6,6 @@ use Rattle.piece_directory.specs.Olds.{olds_of}
 use Rattle.theorem_refusals.specs.Common.{common_le_newer}
 use Rattle.reread_passes.specs.First.{Ends}
 use Rattle.reading.proofs.Settle.{front_common, again_refused, behind_in, k_in, ends_in, entries_in, fit, again_left_by}
-use borrow.Author.Rules.{rules}
 use Rattle.reading.proofs.read_again.Goals as goal
 
 pub kept_front-front-requires : goal.kept_front-front-requires

@@ -2,7 +2,6 @@
 use mathlib.Core.Path.{sym, ap, ◌∙◌}
 use Rattle.text_whole.specs.Verdicts.{verdict}
 use Rattle.reading.proofs.Settle.{again_text, again_unchained, given}
-use borrow.Author.Rules.{rules}
 use Rattle.reading.proofs.reparse_define.Goals as goal
 
 pub read_again-requires : goal.read_again-requires

@@ -1,13 +1,11 @@
 use mathlib.Core.Path.{◌∙◌, subst}
-use Prim.Native.Nat.{◌+◌, ◌-◌}
+use Prim.Native.Nat.{◌+◌}
 use native.Mathlib.Omega.{arith}
 use lib.ListN.{length, drop, length-drop}
 use Rattle.piece_room.proofs.Judge.{fitting}
 use Rattle.piece_room.specs.Rooms.{Asked}
 use Rattle.piece_block.specs.Part.{BlockIn}
-use Rattle.reading_full.specs.Full.{Come}
 use Rattle.reading_full.proofs.Whole.{block_bad, tail_inside, tail_room, tail_whole, block_inside, block_on, block_room, block_come}
-use borrow.Author.Rules.{rules}
 use Rattle.reading_full.proofs.read_blocks.Goals as goal
 
 pub loop-q-init : goal.loop-q-init

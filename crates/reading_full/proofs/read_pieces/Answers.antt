@@ -7,7 +7,6 @@ use Rattle.piece_room.proofs.Judge.{fitting}
 use Rattle.piece_room.specs.Rooms.{Asked}
 use Rattle.piece_head.specs.Part.{HeadIn}
 use Rattle.reading_full.proofs.Whole.{no_head, head_inside, head_room, head_come, come_own, ended_as}
-use borrow.Author.Rules.{rules}
 use Rattle.reading_full.proofs.read_pieces.Goals as goal
 
 pub ask-requires : goal.ask-requires

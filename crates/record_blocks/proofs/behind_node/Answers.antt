@@ -1,6 +1,5 @@
 -- What reaches past the words is cut off.
 use Rattle.record_blocks.proofs.Cuts.{behind_none, behind_there}
-use borrow.Author.Rules.{rules}
 use Rattle.record_blocks.proofs.behind_node.Goals as goal
 
 pub returns-then-words-at : goal.returns-then-words-at

@@ -1,6 +1,5 @@
 -- What reaches past the words is cut off.
 use Rattle.record_blocks.proofs.Cuts.{node_none, node_there}
-use borrow.Author.Rules.{rules}
 use Rattle.record_blocks.proofs.node_at.Goals as goal
 
 pub returns-then-words-at : goal.returns-then-words-at

@@ -1,6 +1,5 @@
 -- What reaches past the text is cut off.
 use Rattle.record_blocks.proofs.Cuts.{piece_there}
-use borrow.Author.Rules.{rules}
 use Rattle.record_blocks.proofs.piece_text.Goals as goal
 
 pub returns : goal.returns

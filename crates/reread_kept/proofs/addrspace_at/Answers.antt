@@ -1,11 +1,8 @@
 use mathlib.Core.Path.{sym, ap, ◌∙◌}
 use mathlib.Core.Bool.{not}
-use Prim.Native.Nat.{◌-◌, ◌≤◌}
 use native.Mathlib.Omega.{arith}
-use lib.ListN.{length}
 use Rattle.records.specs.Pieces.{addrspace}
-use Rattle.reread_kept.proofs.Front.{Spelling, spelling_short, spelling_first, spelling_more, spelling_other, spelling_end}
-use borrow.Author.Rules.{rules}
+use Rattle.reread_kept.proofs.Front.{spelling_short, spelling_first, spelling_more, spelling_other, spelling_end}
 use Rattle.reread_kept.proofs.addrspace_at.Goals as goal
 
 pub returns-then-a-p-lt10 : goal.returns-then-a-p-lt10

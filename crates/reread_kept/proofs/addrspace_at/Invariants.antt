@@ -1,12 +1,7 @@
 -- The invariant: the first k bytes are those of `addrspace`; fewer than 10 bytes have none behind the word.
-use mathlib.Core.Path.{sym, ap, ◌∙◌}
-use mathlib.Core.Bool.{not}
 use Prim.Native.Nat.{◌-◌, ◌≤◌}
-use native.Mathlib.Omega.{arith}
 use lib.ListN.{length}
-use Rattle.records.specs.Pieces.{addrspace}
-use Rattle.reread_kept.proofs.Front.{Spelling, spelling_short, spelling_first, spelling_more, spelling_other, spelling_end}
-use borrow.Author.Rules.{rules}
+use Rattle.reread_kept.proofs.Front.{Spelling}
 use Rattle.reread_kept.proofs.addrspace_at.Given as goal
 
 abbrev pub invariant-loop-k : goal.invariant-loop-k

@@ -5,7 +5,6 @@ use native.Mathlib.Omega.{arith}
 use Rattle.records.specs.Limits.{entry_words}
 use Rattle.piece_directory.specs.Olds.{olds_of}
 use Rattle.reread_kept.proofs.Front.{end_size, end_words, no_size, no_words}
-use borrow.Author.Rules.{rules}
 use Rattle.reread_kept.proofs.behind.Goals as goal
 
 pub returns-then-number-eq0 : goal.returns-then-number-eq0

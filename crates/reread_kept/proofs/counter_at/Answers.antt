@@ -1,7 +1,6 @@
 -- The head begins with 0, and behind the last piece none begins; else the third word of the entry is the counter.
 use Rattle.piece_directory.specs.Olds.{olds_of}
 use Rattle.reread_kept.proofs.Front.{begins_head, begins_end, begins_at}
-use borrow.Author.Rules.{rules}
 use Rattle.reread_kept.proofs.counter_at.Goals as goal
 
 pub returns-then-number-eq0 : goal.returns-then-number-eq0

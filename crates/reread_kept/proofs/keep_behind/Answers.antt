@@ -8,7 +8,6 @@ use Rattle.records.specs.Pieces.{Old, old_words}
 use Rattle.piece_directory.specs.Olds.{olds_of}
 use Rattle.piece_directory.proofs.Links.{olds_length, words_split, all_words_lem}
 use Rattle.reread_kept.proofs.Final.{kept_none}
-use borrow.Author.Rules.{rules}
 use Rattle.reread_kept.proofs.keep_behind.Goals as goal
 
 pub returns-then-from-entries : goal.returns-then-from-entries

@@ -1,10 +1,9 @@
 use mathlib.Core.Path.{◌≡◌, sym, ◌∙◌}
-use Prim.Native.Nat.{◌+◌, ◌-◌, ◌*◌, ◌%◌, ◌≤◌}
+use Prim.Native.Nat.{◌+◌, ◌*◌, ◌%◌, ◌≤◌}
 use native.Mathlib.Omega.{arith}
 use lib.ListN.{length, take, get_or}
 use Rattle.records.specs.Limits.{entry_words}
-use Rattle.reread_kept.proofs.Front.{Going, front_length, front_is, none_kept, head_kept, block_out, block_word, block_addrspace, block_kept, tail_out, tail_kept, word_before}
-use borrow.Author.Rules.{rules}
+use Rattle.reread_kept.proofs.Front.{front_length, front_is, none_kept, head_kept, block_out, block_word, block_addrspace, block_kept, tail_out, tail_kept, word_before}
 use Rattle.reread_kept.proofs.kept_front.Goals as goal
 
 pub returns-then-a-head : goal.returns-then-a-head

@@ -1,9 +1,6 @@
 use mathlib.Core.Path.{sym, ◌∙◌}
-use Prim.Native.Nat.{◌-◌, ◌≤◌}
 use native.Mathlib.Omega.{arith}
-use lib.ListN.{length}
-use Rattle.reread_kept.proofs.Front.{Searching, searching_first, searching_more, found, found_end}
-use borrow.Author.Rules.{rules}
+use Rattle.reread_kept.proofs.Front.{searching_first, searching_more, found, found_end}
 use Rattle.reread_kept.proofs.word_end.Goals as goal
 
 pub loop-i-init : goal.loop-i-init

@@ -1,10 +1,7 @@
 -- The invariant: all bytes from `from` up to i are letters, digits or `_`.
-use mathlib.Core.Path.{sym, ◌∙◌}
 use Prim.Native.Nat.{◌-◌, ◌≤◌}
-use native.Mathlib.Omega.{arith}
 use lib.ListN.{length}
-use Rattle.reread_kept.proofs.Front.{Searching, searching_first, searching_more, found, found_end}
-use borrow.Author.Rules.{rules}
+use Rattle.reread_kept.proofs.Front.{Searching}
 use Rattle.reread_kept.proofs.word_end.Given as goal
 
 abbrev pub invariant-loop-i : goal.invariant-loop-i

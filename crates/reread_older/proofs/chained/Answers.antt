@@ -1,7 +1,5 @@
-use Prim.Native.Nat.{◌-◌}
 use native.Mathlib.Omega.{arith}
-use Rattle.reread_older.proofs.Chain.{Asks, asks_none, asks_short, asks_first, asks_next, asks_done, start_differs, first_differs, text_ends, words_end_lem, counter_high}
-use borrow.Author.Rules.{rules}
+use Rattle.reread_older.proofs.Chain.{asks_none, asks_short, asks_first, asks_next, asks_done, start_differs, first_differs, text_ends, words_end_lem, counter_high}
 use Rattle.reread_older.proofs.chained.Goals as goal
 
 pub returns-then-entries-lt2 : goal.returns-then-entries-lt2

@@ -1,8 +1,6 @@
 -- The invariant: question 22 of all entries is what it says of those from i on; each test is one of its five.
 use Prim.Native.Nat.{◌-◌}
-use native.Mathlib.Omega.{arith}
-use Rattle.reread_older.proofs.Chain.{Asks, asks_none, asks_short, asks_first, asks_next, asks_done, start_differs, first_differs, text_ends, words_end_lem, counter_high}
-use borrow.Author.Rules.{rules}
+use Rattle.reread_older.proofs.Chain.{Asks}
 use Rattle.reread_older.proofs.chained.Given as goal
 
 abbrev pub invariant-loop-i : goal.invariant-loop-i

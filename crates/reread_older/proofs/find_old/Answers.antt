@@ -1,7 +1,5 @@
-use Prim.Native.Nat.{◌-◌}
 use Rattle.piece_directory.specs.Olds.{olds_of}
-use Rattle.reread_older.proofs.Find.{Seeking, seeking_first, seeking_next, found_here, found_none, found_end}
-use borrow.Author.Rules.{rules}
+use Rattle.reread_older.proofs.Find.{seeking_first, seeking_next, found_here, found_none, found_end}
 use Rattle.reread_older.proofs.find_old.Goals as goal
 
 pub loop-j-init : goal.loop-j-init

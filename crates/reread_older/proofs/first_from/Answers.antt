@@ -1,8 +1,5 @@
-use Prim.Native.Nat.{◌-◌, ◌≤◌}
 use native.Mathlib.Omega.{arith}
-use Rattle.piece_directory.specs.Olds.{olds_of, Passed}
 use Rattle.reread_older.proofs.Find.{passed_more, reached_here, reached_end}
-use borrow.Author.Rules.{rules}
 use Rattle.reread_older.proofs.first_from.Goals as goal
 
 pub loop-j-init : goal.loop-j-init

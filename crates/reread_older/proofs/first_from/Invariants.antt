@@ -1,9 +1,6 @@
 -- The invariant: the pieces before j, but for the head, start before the target.
 use Prim.Native.Nat.{◌-◌, ◌≤◌}
-use native.Mathlib.Omega.{arith}
 use Rattle.piece_directory.specs.Olds.{olds_of, Passed}
-use Rattle.reread_older.proofs.Find.{passed_more, reached_here, reached_end}
-use borrow.Author.Rules.{rules}
 use Rattle.reread_older.proofs.first_from.Given as goal
 
 abbrev pub invariant-loop-j : goal.invariant-loop-j

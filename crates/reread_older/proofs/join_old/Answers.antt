@@ -4,7 +4,6 @@ use native.Mathlib.Omega.{arith}
 use Rattle.piece_directory.specs.Olds.{olds_of}
 use Rattle.piece_directory.proofs.Links.{olds_length}
 use Rattle.reread_older.proofs.Find.{too_far, joins_is}
-use borrow.Author.Rules.{rules}
 use Rattle.reread_older.proofs.join_old.Goals as goal
 
 pub returns-then-edit-left : goal.returns-then-edit-left

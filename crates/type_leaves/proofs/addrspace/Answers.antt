@@ -1,7 +1,6 @@
 -- The test of `opt_addrspace`: behind the word the parentheses are skipped, else nothing is.
 use Rattle.lexer.proofs.Laws.{g_done, g_word_yes, g_word_no}
 use Rattle.grammar.specs.Types.{opt_addrspace}
-use borrow.Author.Rules.{rules}
 use Rattle.type_leaves.proofs.addrspace.Goals as goal
 
 pub returns-then-word : goal.returns-then-word

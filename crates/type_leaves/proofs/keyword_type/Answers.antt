@@ -6,7 +6,6 @@ use Rattle.program.specs.Bytes.{bytes}
 use Rattle.grammar.specs.Lexer.{same_word}
 use Rattle.type_leaves.specs.Leaf.{word_types}
 use Rattle.type_leaves.proofs.LeafLaws.{word_alone}
-use borrow.Author.Rules.{rules}
 use Rattle.type_leaves.proofs.keyword_type.Goals as goal
 
 pub returns-then-word : goal.returns-then-word

@@ -5,7 +5,6 @@ use Prim.Native.Nat.{ℕ}
 use Rattle.node_words.proofs.Laws.{push_then}
 use Rattle.type_leaves.proofs.LeafLaws.{done_as}
 use Rattle.records.specs.Words.{node}
-use borrow.Author.Rules.{rules}
 use Rattle.type_leaves.proofs.leaf.Goals as goal
 
 pub returns : goal.returns

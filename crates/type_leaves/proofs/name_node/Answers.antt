@@ -4,7 +4,6 @@ use Rattle.node_words.proofs.Laws.{push_then}
 use Rattle.type_leaves.proofs.LeafLaws.{done_as, headed}
 use Rattle.records.specs.Words.{node}
 use Rattle.grammar.specs.Types.{name_node}
-use borrow.Author.Rules.{rules}
 use Rattle.type_leaves.proofs.name_node.Goals as goal
 
 pub returns : goal.returns

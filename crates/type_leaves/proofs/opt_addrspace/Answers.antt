@@ -1,6 +1,5 @@
 -- Where no `a` stands the word `addrspace` does not stand either, so the answer is the cursor; else it is that of `addrspace`.
 use Rattle.type_leaves.proofs.LeafLaws.{anew_is, not_addrspace}
-use borrow.Author.Rules.{rules}
 use Rattle.type_leaves.proofs.opt_addrspace.Goals as goal
 
 pub returns-then-looks : goal.returns-then-looks

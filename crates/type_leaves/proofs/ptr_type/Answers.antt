@@ -3,7 +3,6 @@ use Rattle.lexer.proofs.Laws.{val, call}
 use Rattle.type_leaves.proofs.LeafLaws.{not_addrspace}
 use native.Mathlib.Omega.{arith}
 use Rattle.grammar.specs.Types.{ptr_type}
-use borrow.Author.Rules.{rules}
 use Rattle.type_leaves.proofs.ptr_type.Goals as goal
 
 pub returns-then-looks : goal.returns-then-looks

@@ -1,14 +1,9 @@
-use Prim.Native.Nat.{ℕ, ◌+◌, ◌*◌}
-use mathlib.Core.Path.{◌≡◌, refl, ◌∙◌}
-use mathlib.Core.List.{List, []}
+use mathlib.Core.Path.{refl, ◌∙◌}
 use native.Mathlib.Omega.{arith}
-use lib.ListN.{length}
-use Rattle.grammar.specs.Types.{struct_fields, parse_type_list, array_type, struct_type, packed_type, suffixes, no_type, parse_type}
-use Rattle.lexer.specs.Reads.{Leads, reach}
+use Rattle.grammar.specs.Types.{struct_fields, parse_type_list, array_type, struct_type, packed_type, suffixes}
 use Rattle.lexer.proofs.Laws.{done, stay, go_on, then, val, byte_yes, byte_no, call}
 use Rattle.node_words.proofs.Laws.{push_then, close_is}
 use Rattle.types.proofs.TypeLaws.{type_then, stuck_token, comma_out, dots_here, dots_out, fields_of, items_more, items_end, types_of, list_more, list_end, dots_as, suffix_fun, suffix_back, suffix_star, suffix_none, suffix_out, type_none, type_some, byte_types, base_bytes, base_words}
-use borrow.Author.Rules.{rules}
 use Rattle.types.proofs.+type_readers.Goals as goal
 
 pub array_type-returns : goal.array_type-returns

@@ -1,15 +1,11 @@
 -- By induction on the depth and the functions' rank: each reader's calls are its definition's steps, and a loop's turn is one element of its list.
 use Prim.Native.Nat.{ℕ, ◌+◌, ◌*◌}
-use mathlib.Core.Path.{◌≡◌, refl, ◌∙◌}
+use mathlib.Core.Path.{◌≡◌}
 use mathlib.Core.List.{List, []}
-use native.Mathlib.Omega.{arith}
 use lib.ListN.{length}
-use Rattle.grammar.specs.Types.{struct_fields, parse_type_list, array_type, struct_type, packed_type, suffixes, no_type, parse_type}
+use Rattle.grammar.specs.Types.{suffixes, no_type, parse_type}
 use Rattle.lexer.specs.Reads.{Leads, reach}
-use Rattle.lexer.proofs.Laws.{done, stay, go_on, then, val, byte_yes, byte_no, call}
-use Rattle.node_words.proofs.Laws.{push_then, close_is}
-use Rattle.types.proofs.TypeLaws.{type_then, stuck_token, comma_out, dots_here, dots_out, fields_of, items_more, items_end, types_of, list_more, list_end, dots_as, suffix_fun, suffix_back, suffix_star, suffix_none, suffix_out, type_none, type_some, byte_types, base_bytes, base_words}
-use borrow.Author.Rules.{rules}
+use Rattle.types.proofs.TypeLaws.{fields_of, types_of}
 use Rattle.types.proofs.+type_readers.Given as goal
 
 abbrev pub decreases-array_type : goal.decreases-array_type

@@ -6,7 +6,6 @@ use Rattle.grammar.specs.Values.{leaf_values}
 use Rattle.lexer.proofs.TestLaws.{prefix_yes, prefix_no}
 use Rattle.value_leaves.specs.Leaf.{key_values}
 use Rattle.value_leaves.proofs.LeafLaws.{word_at_yes, word_at_no}
-use borrow.Author.Rules.{rules}
 use Rattle.value_leaves.proofs.any_leaf.Goals as goal
 
 pub returns-then-looks : goal.returns-then-looks

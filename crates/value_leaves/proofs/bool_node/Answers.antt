@@ -1,6 +1,5 @@
 -- A slot and two words are written, 0 and the number, and the header, written last, makes them the definition's node.
 use Rattle.node_words.proofs.Laws.{push_then, close_is}
-use borrow.Author.Rules.{rules}
 use Rattle.value_leaves.proofs.bool_node.Goals as goal
 
 pub returns : goal.returns

@@ -5,7 +5,6 @@ use Rattle.lexer.proofs.Laws.{val, byte_yes, byte_no, fail_at, place_at}
 use Rattle.node_words.proofs.Laws.{push_then, close_is}
 use Rattle.grammar.specs.Values.{cstring}
 use Rattle.value_leaves.proofs.LeafLaws.{eat_then}
-use borrow.Author.Rules.{rules}
 use Rattle.value_leaves.proofs.cstring_value.Goals as goal
 
 pub returns-then-looks : goal.returns-then-looks

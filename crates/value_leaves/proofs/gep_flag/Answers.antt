@@ -2,7 +2,6 @@
 use mathlib.Core.Path.{sym}
 use Rattle.grammar.specs.Values.{parse_gep_flags}
 use Rattle.lexer.proofs.Laws.{true_false, g_then, g_done, g_stay, g_word_yes, g_word_no}
-use borrow.Author.Rules.{rules}
 use Rattle.value_leaves.proofs.gep_flag.Goals as goal
 
 pub returns-then-word : goal.returns-then-word

@@ -6,7 +6,6 @@ use Rattle.grammar.specs.Lexer.{same_word}
 use Rattle.lexer.proofs.Laws.{true_false, word_yes, word_no, call}
 use Rattle.type_leaves.proofs.LeafLaws.{word_alone}
 use Rattle.value_leaves.specs.Leaf.{key_values}
-use borrow.Author.Rules.{rules}
 use Rattle.value_leaves.proofs.key_value.Goals as goal
 
 pub returns-then-word : goal.returns-then-word

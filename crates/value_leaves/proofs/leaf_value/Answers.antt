@@ -1,6 +1,5 @@
 -- The answer is that of `any_leaf`, made anew.
 use Rattle.value_leaves.proofs.LeafLaws.{tried_anew}
-use borrow.Author.Rules.{rules}
 use Rattle.value_leaves.proofs.leaf_value.Goals as goal
 
 pub returns : goal.returns

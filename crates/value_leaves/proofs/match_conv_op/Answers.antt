@@ -3,7 +3,6 @@ use mathlib.Core.Path.{sym}
 use Rattle.grammar.specs.Values.{conv_ops}
 use Rattle.lexer.specs.Table.{cut}
 use Rattle.lexer.proofs.Laws.{true_false}
-use borrow.Author.Rules.{rules}
 use Rattle.value_leaves.proofs.match_conv_op.Goals as goal
 
 pub returns-then-r-lt6 : goal.returns-then-r-lt6

@@ -2,8 +2,6 @@
 use Rattle.records.specs.Limits.{turns}
 use Rattle.grammar.specs.Values.{parse_gep_flags}
 use Rattle.lexer.specs.Reads.{Comes}
-use Rattle.lexer.proofs.Laws.{g_done, g_stay, g_on, g_more, g_no_more}
-use borrow.Author.Rules.{rules}
 use Rattle.value_leaves.proofs.parse_gep_flags.Given as goal
 
 abbrev pub invariant-loop-left : goal.invariant-loop-left

@@ -1,18 +1,10 @@
 -- By induction on the depth and the functions' rank: each reader's calls are its definition's steps, and a loop's turn is one element of its list.
-use Prim.Native.Nat.{ℕ, ◌+◌, ◌*◌}
-use mathlib.Core.Path.{◌≡◌, refl, ◌∙◌}
+use Prim.Native.Nat.{◌+◌, ◌*◌}
+use mathlib.Core.Path.{◌≡◌}
 use mathlib.Core.List.{[]}
-use native.Mathlib.Omega.{arith}
-use Rattle.lexer.proofs.Laws.{done, stay, go_on, then, val, byte_yes, byte_no, word_yes, word_no, fail_is, fail_at, call}
-use Rattle.node_words.proofs.Laws.{push_then, close_is}
-use Rattle.types.proofs.TypeLaws.{type_then, stuck_token, comma_out}
-use Rattle.lexer.proofs.Children.{two_counted}
 use lib.ListN.{length}
-use Rattle.grammar.specs.Values.{conv_ops, bin_ops, pair_list, aggregate, packed_const, parse_ce_gep, parse_ce_conv, parse_ce_bin, const_exprs, parse_typed_val}
 use Rattle.lexer.specs.Reads.{Leads, reach}
-use Rattle.lexer_keywords.proofs.Ranks.{rank_paid, rank_no}
-use Rattle.values.proofs.ValueLaws.{child_none, none_counted, child_some, pairs_of, pairs_more, pairs_end, indices_of, indices_more, indices_end, indices_out, holding, value_none, value_some, packed_as, pair_none, pair_some}
-use borrow.Author.Rules.{rules}
+use Rattle.values.proofs.ValueLaws.{pairs_of, indices_of}
 use Rattle.values.proofs.+value_readers.Given as goal
 
 abbrev pub decreases-aggregate : goal.decreases-aggregate

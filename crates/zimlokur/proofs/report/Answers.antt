@@ -3,7 +3,6 @@ use mathlib.Core.Path.{sym, subst}
 use Rattle.channel_spec.specs.declared.Told.{Told}
 use Rattle.channel_spec.specs.Answers.{answer_none}
 use Rattle.zimlokur.specs.Report.{ReportsChannel, answered, turned_away}
-use borrow.Author.Rules.{rules}
 use Rattle.zimlokur.proofs.report.Goals as goal
 
 pub returns-in-Answer : goal.returns-in-Answer

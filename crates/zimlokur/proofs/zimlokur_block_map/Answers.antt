@@ -1,6 +1,5 @@
 -- Each form of the answer is one of the two reports, of the map that the definition gives.
 use Rattle.zimlokur.proofs.MapReports.{maps_to, maps_not}
-use borrow.Author.Rules.{rules}
 use Rattle.zimlokur.proofs.zimlokur_block_map.Goals as goal
 
 pub returns-in-Map : goal.returns-in-Map

@@ -1,6 +1,5 @@
 -- Each form of the answer is one of the two reports, of the step that the definition gives.
 use Rattle.zimlokur.proofs.StepReports.{steps_to, steps_nowhere}
-use borrow.Author.Rules.{rules}
 use Rattle.zimlokur.proofs.zimlokur_child.Goals as goal
 
 pub returns-in-To : goal.returns-in-To

@@ -1,6 +1,5 @@
 -- Each form of the answer is one of the two reports, of the part that the definition gives.
 use Rattle.zimlokur.proofs.StepReports.{finds, finds_none}
-use borrow.Author.Rules.{rules}
 use Rattle.zimlokur.proofs.zimlokur_name.Goals as goal
 
 pub returns-in-Part : goal.returns-in-Part

@@ -1,6 +1,5 @@
 -- Each form of the answer is one of the two reports, and the arrays are those that the reading left.
 use Rattle.zimlokur.proofs.ReportLaws.{accepted, refused}
-use borrow.Author.Rules.{rules}
 use Rattle.zimlokur.proofs.zimlokur_parse_define.Goals as goal
 
 pub returns-in-Accepted : goal.returns-in-Accepted

@@ -1,7 +1,6 @@
 -- The line and the column are those of the one position that the definition gives.
 use Rattle.text_lines.specs.declared.Position.{Position}
 use mathlib.Core.Path.{ap}
-use borrow.Author.Rules.{rules}
 use Rattle.zimlokur.proofs.zimlokur_position.Goals as goal
 
 pub returns : goal.returns

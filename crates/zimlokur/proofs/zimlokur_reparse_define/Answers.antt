@@ -1,6 +1,5 @@
 -- Each form of the answer is one of the two reports, and the arrays are those that the re-reading left.
 use Rattle.zimlokur.proofs.ReportLaws.{accepted_again, refused_again}
-use borrow.Author.Rules.{rules}
 use Rattle.zimlokur.proofs.zimlokur_reparse_define.Goals as goal
 
 pub returns-in-Accepted : goal.returns-in-Accepted

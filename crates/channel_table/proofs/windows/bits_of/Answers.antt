@@ -3,7 +3,6 @@ use lib.Pow.{pow_pos}
 use Prim.Native.Nat.{◌-◌}
 use native.Mathlib.Omega.{arith}
 use Rattle.channel_table.proofs.Bits.{one_shl, half, row_shl}
-use borrow.Author.Rules.{rules}
 use Rattle.channel_table.proofs.windows.bits_of.Goals as goal
 
 pub overflow_sub-below-2 : goal.overflow_sub-below-2

@@ -1,7 +1,6 @@
 -- The tests are those of the definition, in its order.
 use borrow.Author.Tests.{le-leb, lt-leb, lt-ltb, le-ltb}
 use Rattle.channel_table.specs.Windows.{break_before}
-use borrow.Author.Rules.{rules}
 use Rattle.channel_table.proofs.windows.break_before.Goals as goal
 
 pub returns-then-channel-from : goal.returns-then-channel-from

@@ -1,9 +1,8 @@
 use Prim.Native.Nat.{◌-◌, ◌+◌}
 use native.Mathlib.Omega.{arith}
 use Rattle.channel_table.proofs.Bits.{clear_here, clear_next, clear_none}
-use mathlib.Core.Path.{refl, sym, ◌∙◌, ◌≡◌}
-use Rattle.channel_table.specs.Windows.{first_clear, window_size}
-use borrow.Author.Rules.{rules}
+use mathlib.Core.Path.{sym, ◌∙◌, ◌≡◌}
+use Rattle.channel_table.specs.Windows.{window_size}
 use Rattle.channel_table.proofs.windows.first_clear.Goals as goal
 
 pub returns-then-marks-k-eq0 : goal.returns-then-marks-k-eq0

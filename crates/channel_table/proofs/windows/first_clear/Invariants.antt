@@ -1,10 +1,7 @@
 -- The search from the bit that the code has come to finds what the search from the start finds.
-use Prim.Native.Nat.{◌-◌, ◌+◌}
-use native.Mathlib.Omega.{arith}
-use Rattle.channel_table.proofs.Bits.{clear_here, clear_next, clear_none}
-use mathlib.Core.Path.{refl, sym, ◌∙◌, ◌≡◌}
+use Prim.Native.Nat.{◌-◌}
+use mathlib.Core.Path.{◌≡◌}
 use Rattle.channel_table.specs.Windows.{first_clear, window_size}
-use borrow.Author.Rules.{rules}
 use Rattle.channel_table.proofs.windows.first_clear.Given as goal
 
 abbrev pub invariant-loop-k : goal.invariant-loop-k

@@ -1,7 +1,5 @@
 -- A rule of another class changes nothing, and one of the class adds its marks and its two ends.
-use borrow.Author.Tests.{not-true, not-false}
 use Rattle.channel_table.specs.Windows.{marked}
-use borrow.Author.Rules.{rules}
 use Rattle.channel_table.proofs.windows.marked.Goals as goal
 
 pub returns-then-not-is_of_class : goal.returns-then-not-is_of_class

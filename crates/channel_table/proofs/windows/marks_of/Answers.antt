@@ -2,7 +2,6 @@
 use Rattle.channel_table.proofs.Bits.{last_over, last_inside}
 use Rattle.channel_table.specs.Windows.{marks_of}
 use borrow.Author.Tests.{le-leb, lt-leb, lt-ltb, le-ltb}
-use borrow.Author.Rules.{rules}
 use Rattle.channel_table.proofs.windows.marks_of.Goals as goal
 
 pub returns-then-last-first : goal.returns-then-last-first

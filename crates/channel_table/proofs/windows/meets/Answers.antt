@@ -1,7 +1,5 @@
 -- A rule of another class meets nothing, and one of the class meets the marks that it shares.
-use borrow.Author.Tests.{not-true, not-false}
 use Rattle.channel_table.specs.Windows.{meets}
-use borrow.Author.Rules.{rules}
 use Rattle.channel_table.proofs.windows.meets.Goals as goal
 
 pub returns-then-not-is_of_class : goal.returns-then-not-is_of_class

@@ -1,7 +1,6 @@
 -- The value's first three words are those that the definition takes apart, also where the value has more of them or fewer, and only an integer has
 -- the integer's header.
 use Rattle.inst_terminators.proofs.SwitchLaws.{case_yes, case_no}
-use borrow.Author.Rules.{rules}
 use Rattle.inst_terminators.proofs.switch.case_int.Goals as goal
 
 pub returns-then-h-eq-INT_HEADER : goal.returns-then-h-eq-INT_HEADER

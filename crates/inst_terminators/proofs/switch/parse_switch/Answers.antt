@@ -11,7 +11,6 @@ use Rattle.lexer_names.proofs.Passed.{passes_token}
 use Rattle.node_words.proofs.Laws.{push_then}
 use mathlib.Core.Path.{◌∙◌}
 use native.Mathlib.Omega.{arith}
-use borrow.Author.Rules.{rules}
 use Rattle.inst_terminators.proofs.switch.parse_switch.Goals as goal
 
 pub parse_typed_val-z1-requires : goal.parse_typed_val-z1-requires

@@ -1,12 +1,9 @@
-use borrow.Author.Rules.{rules}
 use Rattle.inst_terminators.proofs.SwitchLaws.{labels_end, labels_more, cases_stop, cases_out}
 use Rattle.inst_operands.proofs.Twice.{kept_here, kept_on}
-use Rattle.inst_operands.specs.Kept.{kept, nothing}
+use Rattle.inst_operands.specs.Kept.{nothing}
 use Rattle.grammar.specs.Instructions.{switch_cases}
-use Rattle.lexer.specs.Reads.{Leads}
-use lib.ListN.{length}
 use mathlib.Core.List.{[]}
-use mathlib.Core.Path.{◌≡◌, refl, ◌∙◌}
+use mathlib.Core.Path.{refl, ◌∙◌}
 use native.Mathlib.Omega.{arith}
 use Rattle.inst_terminators.proofs.switch.switch_labels.Goals as goal
 

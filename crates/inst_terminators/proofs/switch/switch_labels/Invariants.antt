@@ -1,15 +1,11 @@
 -- The invariant: the definition from `p` is the definition from `q` with the turns left, the labels written so far, and integers that are not
 -- written; a case adds its node to the labels.
-use borrow.Author.Rules.{rules}
-use Rattle.inst_terminators.proofs.SwitchLaws.{labels_end, labels_more, cases_stop, cases_out}
-use Rattle.inst_operands.proofs.Twice.{kept_here, kept_on}
 use Rattle.inst_operands.specs.Kept.{kept, nothing}
 use Rattle.grammar.specs.Instructions.{switch_cases}
 use Rattle.lexer.specs.Reads.{Leads}
 use lib.ListN.{length}
 use mathlib.Core.List.{[]}
-use mathlib.Core.Path.{◌≡◌, refl, ◌∙◌}
-use native.Mathlib.Omega.{arith}
+use mathlib.Core.Path.{◌≡◌}
 use Rattle.inst_terminators.proofs.switch.switch_labels.Given as goal
 
 abbrev pub invariant-loop-left : goal.invariant-loop-left

@@ -1,6 +1,5 @@
 -- The word is the array's below the cursor, and 0 past the cursor, past the array, and where the reader was refused, as in the definition.
 use Rattle.inst_terminators.proofs.SwitchLaws.{taken_in, taken_past, taken_out}
-use borrow.Author.Rules.{rules}
 use Rattle.inst_terminators.proofs.switch.taken.Goals as goal
 
 pub returns-then-i-words : goal.returns-then-i-words

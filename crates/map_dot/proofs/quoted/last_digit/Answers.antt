@@ -1,7 +1,6 @@
 -- The test of the code is the definition's.
 use borrow.Author.Tests.{lt-ltb, le-ltb}
 use Rattle.map_spec.specs.Drawing.{hex_digit}
-use borrow.Author.Rules.{rules}
 use Rattle.map_dot.proofs.quoted.last_digit.Goals as goal
 
 pub returns-then-d-lt10 : goal.returns-then-d-lt10

@@ -2,7 +2,6 @@
 use borrow.Author.Tests.{eq-eqb, ne_eqb}
 use Rattle.grammar.specs.Numbered.{block_number}
 use Rattle.map_spec.specs.Blocks.{block_name}
-use borrow.Author.Rules.{rules}
 use Rattle.map_dot.proofs.quoted.put_block.Goals as goal
 
 pub returns-then-label-eq0 : goal.returns-then-label-eq0

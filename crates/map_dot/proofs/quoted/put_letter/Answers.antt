@@ -3,7 +3,6 @@ use mathlib.Core.Path.{sym, ◌∙◌}
 use Rattle.buffer.specs.Laws.{and_then}
 use Rattle.map_spec.specs.Drawing.{escape}
 use Rattle.map_dot.proofs.Letters.{one, plain_letter, other_letter}
-use borrow.Author.Rules.{rules}
 use Rattle.map_dot.proofs.quoted.put_letter.Goals as goal
 
 pub returns-then-is_plain : goal.returns-then-is_plain

@@ -1,13 +1,12 @@
 use mathlib.Core.Path.{◌≡◌, refl, ◌∙◌}
 use mathlib.Core.List.{[]}
-use Prim.Native.Nat.{◌+◌, ◌-◌, ◌≤◌}
+use Prim.Native.Nat.{◌+◌, ◌≤◌}
 use native.Mathlib.Omega.{arith}
 use lib.ListN.{length, drop, drop_of_length-le}
 use Rattle.program.specs.Lists.{drop_next}
 use Rattle.buffer.specs.Stored.{stored, placed}
 use Rattle.buffer.specs.Laws.{went_on}
 use Rattle.map_spec.specs.Drawing.{letters}
-use borrow.Author.Rules.{rules}
 use Rattle.map_dot.proofs.quoted.put_letters.Goals as goal
 
 pub loop-i-init : goal.loop-i-init

@@ -1,14 +1,9 @@
 -- The letters still to be stored, from where the code has come to, give what all give from the start.
-use mathlib.Core.Path.{◌≡◌, refl, ◌∙◌}
-use mathlib.Core.List.{[]}
-use Prim.Native.Nat.{◌+◌, ◌-◌, ◌≤◌}
-use native.Mathlib.Omega.{arith}
-use lib.ListN.{length, drop, drop_of_length-le}
-use Rattle.program.specs.Lists.{drop_next}
+use mathlib.Core.Path.{◌≡◌}
+use Prim.Native.Nat.{◌-◌}
+use lib.ListN.{length, drop}
 use Rattle.buffer.specs.Stored.{stored, placed}
-use Rattle.buffer.specs.Laws.{went_on}
 use Rattle.map_spec.specs.Drawing.{letters}
-use borrow.Author.Rules.{rules}
 use Rattle.map_dot.proofs.quoted.put_letters.Given as goal
 
 abbrev pub invariant-loop-i : goal.invariant-loop-i

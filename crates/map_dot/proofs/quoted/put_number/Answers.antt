@@ -2,7 +2,6 @@
 use Rattle.buffer.specs.Laws.{and_then}
 use Rattle.map_spec.specs.Drawing.{in_quotes}
 use Rattle.map_dot.proofs.Letters.{decimal_letters}
-use borrow.Author.Rules.{rules}
 use Rattle.map_dot.proofs.quoted.put_number.Goals as goal
 
 pub returns : goal.returns

@@ -1,7 +1,6 @@
 -- Between quotes escapes are undone; without quotes a name stands as it is.
 use mathlib.Core.Path.{sym, ◌∙◌}
 use Rattle.map_dot.proofs.Letters.{spelled_quoted, spelled_plain}
-use borrow.Author.Rules.{rules}
 use Rattle.map_dot.proofs.quoted.put_raw.Goals as goal
 
 pub returns-then-is_quoted : goal.returns-then-is_quoted

@@ -1,6 +1,6 @@
 use mathlib.Core.Path.{◌≡◌, refl, ◌∙◌}
 use mathlib.Core.List.{[]}
-use Prim.Native.Nat.{◌-◌, ◌≤◌}
+use Prim.Native.Nat.{◌≤◌}
 use native.Mathlib.Omega.{arith}
 use lib.ListN.{length, drop, drop_of_length-le}
 use borrow.Author.Tests.{not-true, not-false}
@@ -9,7 +9,6 @@ use Rattle.lexer_names.specs.Names.{spelled_of}
 use Rattle.buffer.specs.Stored.{stored, placed}
 use Rattle.buffer.specs.Laws.{went_on}
 use Rattle.map_spec.specs.Drawing.{letters}
-use borrow.Author.Rules.{rules}
 use Rattle.map_dot.proofs.quoted.put_unescaped.Goals as goal
 
 pub loop-i-init : goal.loop-i-init

@@ -1,8 +1,6 @@
-use mathlib.Core.Path.{◌≡◌, refl, sym, ap, ◌∙◌}
+use mathlib.Core.Path.{sym, ap, ◌∙◌}
 use Rattle.record_steps.specs.Views.{reached}
-use Rattle.map_spec.specs.Blocks.{last_from}
 use Rattle.map_dot.proofs.Edges.{last_next, last_here, last_done}
-use borrow.Author.Rules.{rules}
 use Rattle.map_dot.proofs.targets.last.Goals as goal
 
 pub returns-in-Nothing : goal.returns-in-Nothing

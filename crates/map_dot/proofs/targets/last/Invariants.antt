@@ -1,9 +1,6 @@
 -- The last node from where the code has come to is the last from the start.
-use mathlib.Core.Path.{◌≡◌, refl, sym, ap, ◌∙◌}
-use Rattle.record_steps.specs.Views.{reached}
+use mathlib.Core.Path.{◌≡◌}
 use Rattle.map_spec.specs.Blocks.{last_from}
-use Rattle.map_dot.proofs.Edges.{last_next, last_here, last_done}
-use borrow.Author.Rules.{rules}
 use Rattle.map_dot.proofs.targets.last.Given as goal
 
 abbrev pub invariant-loop-left : goal.invariant-loop-left

@@ -5,7 +5,6 @@ use Rattle.buffer.specs.Stored.{stored, placed}
 use Rattle.trees.specs.Steps.{kind_in}
 use Rattle.record_blocks.proofs.Inside.{kind_inside}
 use Rattle.map_dot.proofs.Edges.{edge_here, no_edge_here}
-use borrow.Author.Rules.{rules}
 use Rattle.map_dot.proofs.targets.put_edge_to.Goals as goal
 
 pub overflow_add-place : goal.overflow_add-place

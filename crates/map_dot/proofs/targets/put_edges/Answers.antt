@@ -4,7 +4,6 @@ use Rattle.trees.specs.Steps.{children_in}
 use Rattle.record_steps.specs.Views.{reached}
 use Rattle.buffer.specs.Stored.{stored, placed}
 use Rattle.map_dot.proofs.Edges.{block_there, block_none}
-use borrow.Author.Rules.{rules}
 use Rattle.map_dot.proofs.targets.put_edges.Goals as goal
 
 pub returns-in-To : goal.returns-in-To

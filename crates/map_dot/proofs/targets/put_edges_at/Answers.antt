@@ -1,12 +1,10 @@
 -- The tests of the code are those of the definition, in its order.
 use mathlib.Core.Path.{refl, sym, ap, ◌∙◌}
-use borrow.Author.Tests.{not-true, not-false}
 use Rattle.trees.specs.Steps.{kind_in, children_in}
 use Rattle.record_steps.specs.Views.{reached}
 use Rattle.buffer.specs.Stored.{stored, placed}
 use Rattle.map_spec.specs.Blocks.{branches}
 use Rattle.map_dot.proofs.Edges.{no_targets, targets_there, targets_none}
-use borrow.Author.Rules.{rules}
 use Rattle.map_dot.proofs.targets.put_edges_at.Goals as goal
 
 pub returns-then-not-names_targets : goal.returns-then-not-names_targets

@@ -1,17 +1,10 @@
 -- The edges still to be stored, from where the code has come to, give what all give from the start.
-use mathlib.Core.Path.{◌≡◌, refl, sym, ap, ◌∙◌}
+use mathlib.Core.Path.{◌≡◌}
 use mathlib.Core.Option.{some}
-use Prim.Native.Nat.{◌-◌}
 use lib.ListN.{length}
-use Rattle.trees.specs.Steps.{next_of}
-use Rattle.record_steps.specs.Views.{reached}
 use Rattle.buffer.specs.Stored.{stored, placed}
-use Rattle.buffer.specs.Laws.{went_on}
 use Rattle.map_spec.specs.Drawing.{edges_to}
 use Rattle.map_spec.specs.Blocks.{block_name, names_from}
-use Rattle.map_dot.proofs.Ends.{done, past}
-use Rattle.map_dot.proofs.Edges.{edges_next, edges_none, edges_done}
-use borrow.Author.Rules.{rules}
 use Rattle.map_dot.proofs.targets.put_edges_from.Given as goal
 
 abbrev pub invariant-loop-left : goal.invariant-loop-left

@@ -1,6 +1,5 @@
 -- The tests of `digit_value` in their order: behind `0x` or `0X` the bits of a float, else a numeral.
 use native.Mathlib.Omega.{arith}
-use borrow.Author.Rules.{rules}
 use Rattle.lexer.proofs.Laws.{call}
 use Rattle.lexer.proofs.TestLaws.{prefix_yes, prefix_no}
 use Rattle.number_nodes.proofs.constants.digit_value.Goals as goal

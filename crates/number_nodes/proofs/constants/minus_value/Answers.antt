@@ -1,6 +1,5 @@
 -- The test of `minus_value`: `inf`, else a numeral with a minus.
 use native.Mathlib.Omega.{arith}
-use borrow.Author.Rules.{rules}
 use Rattle.lexer.proofs.Laws.{call}
 use Rattle.lexer.proofs.TestLaws.{prefix_yes, prefix_no}
 use Rattle.number_nodes.proofs.constants.minus_value.Goals as goal

@@ -1,5 +1,4 @@
 -- A digit, `-` or `+` at the cursor begins a number, and no two of them stand there at once, so their order does not matter.
-use borrow.Author.Rules.{rules}
 use Rattle.number_nodes.proofs.NodeLaws.{numeric_digit, numeric_minus, numeric_plus, numeric_none}
 use Rattle.number_nodes.proofs.constants.numeric.Goals as goal
 

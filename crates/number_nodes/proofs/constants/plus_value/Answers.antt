@@ -1,6 +1,5 @@
 -- The tests of `plus_value` in their order.
 use native.Mathlib.Omega.{arith}
-use borrow.Author.Rules.{rules}
 use Rattle.lexer.proofs.Laws.{call}
 use Rattle.lexer.proofs.TestLaws.{prefix_yes, prefix_no}
 use Rattle.number_nodes.proofs.constants.plus_value.Goals as goal

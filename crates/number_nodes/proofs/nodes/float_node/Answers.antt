@@ -3,7 +3,6 @@ use Rattle.lexer.proofs.Laws.{done}
 use Rattle.node_words.proofs.Laws.{push_then}
 use Rattle.records.specs.Words.{node}
 use Rattle.grammar.specs.Values.{float_node}
-use borrow.Author.Rules.{rules}
 use Rattle.number_nodes.proofs.nodes.float_node.Goals as goal
 
 pub returns : goal.returns

@@ -1,6 +1,5 @@
 -- The bits, then their node.
 use native.Mathlib.Omega.{arith}
-use borrow.Author.Rules.{rules}
 use Rattle.lexer.proofs.Laws.{val_paid, call}
 use Rattle.number_nodes.proofs.Passing.{passes_hex}
 use Rattle.number_nodes.proofs.nodes.hex_value.Goals as goal

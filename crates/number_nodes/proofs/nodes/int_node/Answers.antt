@@ -2,7 +2,6 @@
 use Rattle.lexer.proofs.Laws.{done}
 use Rattle.node_words.proofs.Laws.{push_then}
 use Rattle.records.specs.Words.{node}
-use borrow.Author.Rules.{rules}
 use Rattle.number_nodes.proofs.nodes.int_node.Goals as goal
 
 pub returns : goal.returns

@@ -1,5 +1,4 @@
 -- By the literal: an integer's node, a float's, or its refusal.
-use borrow.Author.Rules.{rules}
 use Rattle.number_nodes.proofs.NodeLaws.{node_int, node_float, node_out}
 use Rattle.number_nodes.proofs.nodes.long_numeral.Goals as goal
 

@@ -1,6 +1,5 @@
 -- Digits that are a numeral by themselves are what `read_numeric` reads there; any other numeral is read part by part.
 use native.Mathlib.Omega.{arith}
-use borrow.Author.Rules.{rules}
 use Rattle.number_nodes.proofs.NodeLaws.{node_short, node_kept}
 use Rattle.number_nodes.proofs.nodes.numeral.Goals as goal
 

@@ -1,6 +1,5 @@
 -- A value of 64 bits is its own low half; negative and not zero, it is 2^64 less it there, under a half of ones.
 use native.Mathlib.Omega.{arith}
-use borrow.Author.Rules.{rules}
 use Rattle.number_numerals.proofs.NumeralLaws.{halves_minus, halves_plus, halves_zero}
 use Rattle.number_nodes.proofs.nodes.short_node.Goals as goal
 use Rattle.number_nodes.proofs.nodes.short_node.Goals.{then-neg+else-v-ne0, else-neg}

@@ -2,7 +2,6 @@
 -- Assumes nothing.
 use mathlib.Core.Bool.{true, false}
 use mathlib.Core.Path.{◌≡◌, sym, ◌∙◌}
-use borrow.Author.Rules.{rules}
 use Rattle.number_decimals.specs.Decimals.{float_in}
 use Rattle.number_numerals.specs.Numerals.{decimal_in, float_literal}
 use Rattle.number_integers.specs.declared.literal.Literal.TheVariants.{Refused}

@@ -6,7 +6,6 @@ use mathlib.Core.Path.{◌≡◌, sym, ap, subst}
 use Prim.Native.Nat.{ℕ, ◌+◌, ◌^◌, ◌<◌}
 use native.Mathlib.Nat.{zero-add}
 use native.Mathlib.Omega.{arith}
-use borrow.Author.Rules.{rules}
 use Rattle.grammar.specs.Numbers.{signed}
 use Rattle.number_decimals.specs.Decimals.{Unsigned, bits_of}
 use Rattle.number_numerals.specs.Numerals.{float_literal}

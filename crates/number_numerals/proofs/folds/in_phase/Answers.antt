@@ -1,6 +1,5 @@
 -- By the parts of the state.
 -- Assumes nothing.
-use borrow.Author.Rules.{rules}
 use Rattle.number_numerals.specs.Numerals.{in_phase}
 use Rattle.number_numerals.proofs.folds.in_phase.Goals as goal
 

@@ -1,5 +1,4 @@
 -- Phase by phase.
-use borrow.Author.Rules.{rules}
 use Rattle.number_numerals.specs.Numerals.{literal_at}
 use Rattle.number_numerals.proofs.folds.literal_of.Goals as goal
 

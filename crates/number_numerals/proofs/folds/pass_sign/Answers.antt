@@ -1,6 +1,5 @@
 -- By the parts of the state.
 -- Assumes nothing.
-use borrow.Author.Rules.{rules}
 use Rattle.number_numerals.specs.Numerals.{sign_passed}
 use Rattle.number_numerals.proofs.folds.pass_sign.Goals as goal
 

@@ -1,6 +1,5 @@
 -- By the parts of the state.
 -- Assumes nothing.
-use borrow.Author.Rules.{rules}
 use Rattle.number_numerals.specs.Numerals.{power_pushed}
 use Rattle.number_numerals.proofs.folds.power_digit.Goals as goal
 

@@ -1,6 +1,5 @@
 -- By the parts of the state.
 -- Assumes nothing.
-use borrow.Author.Rules.{rules}
 use Rattle.number_numerals.specs.Numerals.{power_signed}
 use Rattle.number_numerals.proofs.folds.power_sign.Goals as goal
 

@@ -1,6 +1,5 @@
 -- Phase by phase; the class of a digit is its value.
 use borrow.Author.Tests.{eq-eqb, ne_eqb}
-use borrow.Author.Rules.{rules}
 use Rattle.number_numerals.specs.Numerals.{taken_in, pushed_in}
 use Rattle.number_numerals.proofs.folds.take.Goals as goal
 

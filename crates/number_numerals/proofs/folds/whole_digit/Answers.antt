@@ -1,6 +1,5 @@
 -- By the parts of the state.
 -- Assumes nothing.
-use borrow.Author.Rules.{rules}
 use Rattle.number_numerals.specs.Numerals.{whole_pushed}
 use Rattle.number_numerals.proofs.folds.whole_digit.Goals as goal
 

@@ -3,7 +3,6 @@
 use mathlib.Core.Bool.{true, false}
 use mathlib.Core.Path.{◌≡◌, sym, ap, ◌∙◌}
 use Prim.Native.Nat.{ℕ}
-use borrow.Author.Rules.{rules}
 use Rattle.number_integers.specs.Integers.{signed_of}
 use Rattle.number_numerals.specs.Numerals.{integer_in, words_literal}
 use Rattle.number_integers.specs.declared.integer.Integer.TheVariants.{Value, Refused as Out}

@@ -1,9 +1,6 @@
 use mathlib.Core.Path.{sym, ap, ◌∙◌}
-use Prim.Native.Nat.{◌-◌}
-use lib.ListN.{length}
-use borrow.Author.Rules.{rules}
 use Rattle.number_numerals.specs.Steps.{next_of}
-use Rattle.number_numerals.proofs.Onward.{Going, going_start, going_on, going_stop, going_out, folded_kept}
+use Rattle.number_numerals.proofs.Onward.{going_start, going_on, going_stop, going_out, folded_kept}
 use Rattle.number_numerals.proofs.reads.fold_on.Goals as goal
 
 pub loop-i-init : goal.loop-i-init

@@ -1,6 +1,5 @@
 -- The fold's state says what the literal is; its refusal is behind the numeral.
 use mathlib.Core.Path.{sym, ◌∙◌}
-use borrow.Author.Rules.{rules}
 use Rattle.number_numerals.proofs.NumeralLaws.{behind_sign, literal_int, literal_float, literal_out}
 use Rattle.number_numerals.proofs.reads.parse_numeral.Goals as goal
 

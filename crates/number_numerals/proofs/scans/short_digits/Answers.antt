@@ -1,10 +1,7 @@
 use mathlib.Core.Path.{refl}
-use Prim.Native.Nat.{◌-◌}
-use lib.ListN.{length}
-use borrow.Author.Rules.{rules}
 use borrow.Author.Tests.{ltb-true}
 use Rattle.lexer.proofs.Laws.{true_false}
-use Rattle.number_numerals.proofs.ScanLaws.{Summing, short_start, short_more, short_stop, short_out}
+use Rattle.number_numerals.proofs.ScanLaws.{short_start, short_more, short_stop, short_out}
 use Rattle.number_numerals.proofs.scans.short_digits.Goals as goal
 
 pub loop-i-init : goal.loop-i-init

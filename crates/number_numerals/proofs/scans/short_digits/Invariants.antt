@@ -1,11 +1,7 @@
 -- The invariant `Summing`: v is the value of the digits passed. At a value that ten times as much may not hold the loop gives up, so no sum wraps.
-use mathlib.Core.Path.{refl}
 use Prim.Native.Nat.{◌-◌}
 use lib.ListN.{length}
-use borrow.Author.Rules.{rules}
-use borrow.Author.Tests.{ltb-true}
-use Rattle.lexer.proofs.Laws.{true_false}
-use Rattle.number_numerals.proofs.ScanLaws.{Summing, short_start, short_more, short_stop, short_out}
+use Rattle.number_numerals.proofs.ScanLaws.{Summing}
 use Rattle.number_numerals.proofs.scans.short_digits.Given as goal
 
 abbrev pub invariant-loop-i : goal.invariant-loop-i

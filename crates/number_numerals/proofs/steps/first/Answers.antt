@@ -1,6 +1,5 @@
 -- The sign or a digit, in the order of `first_next`.
 use borrow.Author.Tests.{lt-ltb, le-ltb}
-use borrow.Author.Rules.{rules}
 use Rattle.program.specs.Class.{is_digit}
 use Rattle.number_numerals.specs.Steps.{next_of}
 use Rattle.number_numerals.specs.Numerals.{first_next}

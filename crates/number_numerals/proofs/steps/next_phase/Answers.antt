@@ -1,6 +1,5 @@
 -- Phase by phase; an underscore first, where a digit was passed, a sign first, where one may stand.
 use borrow.Author.Tests.{eq-eqb, ne_eqb}
-use borrow.Author.Rules.{rules}
 use Rattle.number_numerals.specs.Steps.{next_of}
 use Rattle.number_numerals.specs.Numerals.{next_phase}
 use Rattle.number_numerals.proofs.steps.next_phase.Goals as goal

@@ -1,6 +1,5 @@
 -- The tests of `part_next` in their order.
 use borrow.Author.Tests.{lt-ltb, le-ltb}
-use borrow.Author.Rules.{rules}
 use Rattle.program.specs.Class.{is_digit}
 use Rattle.number_numerals.specs.Steps.{next_of}
 use Rattle.number_numerals.specs.Numerals.{part_next}

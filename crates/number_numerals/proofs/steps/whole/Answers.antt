@@ -1,6 +1,5 @@
 -- The tests of `whole_next` in their order; the class of a byte says whether it is a digit.
 use borrow.Author.Tests.{eq-eqb, ne_eqb, lt-ltb, le-ltb}
-use borrow.Author.Rules.{rules}
 use Rattle.program.specs.Class.{is_digit}
 use Rattle.number_numerals.specs.Steps.{next_of}
 use Rattle.number_numerals.specs.Numerals.{whole_next}

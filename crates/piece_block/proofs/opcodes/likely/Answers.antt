@@ -1,6 +1,5 @@
 -- A word that spells the keyword has the keyword's rank, which the caller gives.
 use Rattle.piece_block.proofs.StatementLaws.{rank_same}
-use borrow.Author.Rules.{rules}
 use Rattle.piece_block.proofs.opcodes.likely.Goals as goal
 
 pub returns-then-spells : goal.returns-then-spells

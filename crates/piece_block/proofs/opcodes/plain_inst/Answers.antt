@@ -5,7 +5,6 @@ use Rattle.lexer.proofs.Laws.{fail_is, turn}
 use Rattle.piece_block.specs.Opcodes.{plain_at}
 use Rattle.piece_block.proofs.OpcodeLaws.{plain_tail_lem, plain_none}
 use Rattle.piece_block.proofs.StatementLaws.{above, paid, paid_rich, uncounted_is}
-use borrow.Author.Rules.{rules}
 use Rattle.piece_block.proofs.opcodes.plain_inst.Goals as goal
 
 pub shape_of-words-then-r-lt-S_NONE : goal.shape_of-words-then-r-lt-S_NONE

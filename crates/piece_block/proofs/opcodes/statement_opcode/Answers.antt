@@ -5,7 +5,6 @@ use Rattle.lexer.specs.Table.{cut}
 use Rattle.grammar.specs.Instructions.{tail_words}
 use Rattle.piece_block.specs.Opcodes.{statement_words}
 use Rattle.piece_block.proofs.OpcodeLaws.{rank_small}
-use borrow.Author.Rules.{rules}
 use Rattle.piece_block.proofs.opcodes.statement_opcode.Goals as goal
 
 pub returns : goal.returns

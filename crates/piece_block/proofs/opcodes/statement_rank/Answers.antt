@@ -3,7 +3,6 @@ use mathlib.Core.Path.{refl}
 use Rattle.grammar.specs.Lexer.{same_word, rank}
 use Rattle.grammar.specs.Instructions.{tail_words}
 use Rattle.piece_block.specs.Opcodes.{statement_words}
-use borrow.Author.Rules.{rules}
 use Rattle.piece_block.proofs.opcodes.statement_rank.Goals as goal
 
 pub likely_statement-requires : goal.likely_statement-requires

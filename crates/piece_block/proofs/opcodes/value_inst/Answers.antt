@@ -6,8 +6,7 @@ use Rattle.lexer.proofs.Laws.{fail_is}
 use Rattle.piece_block.specs.Opcodes.{value_at}
 use Rattle.piece_block.proofs.OpcodeLaws.{value_bin, value_fbin, value_conv, value_tail, value_none}
 use Rattle.lexer.proofs.Laws.{turn}
-use Rattle.piece_block.proofs.StatementLaws.{above, paid, paid_rich}
-use borrow.Author.Rules.{rules}
+use Rattle.piece_block.proofs.StatementLaws.{paid, paid_rich}
 use Rattle.piece_block.proofs.opcodes.value_inst.Goals as goal
 
 pub parse_bin-requires : goal.parse_bin-requires

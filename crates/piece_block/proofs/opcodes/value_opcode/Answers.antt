@@ -6,7 +6,6 @@ use Rattle.grammar.specs.Instructions.{fbin_ops, inst_conv_ops, tail_words}
 use Rattle.grammar.specs.Values.{bin_ops}
 use Rattle.piece_block.specs.Opcodes.{value_opcodes}
 use Rattle.piece_block.proofs.OpcodeLaws.{rank_small}
-use borrow.Author.Rules.{rules}
 use Rattle.piece_block.proofs.opcodes.value_opcode.Goals as goal
 
 pub returns : goal.returns

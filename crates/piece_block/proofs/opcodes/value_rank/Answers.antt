@@ -4,7 +4,6 @@ use Rattle.grammar.specs.Lexer.{same_word, rank}
 use Rattle.grammar.specs.Values.{bin_ops}
 use Rattle.grammar.specs.Instructions.{fbin_ops, inst_conv_ops, tail_words}
 use Rattle.piece_block.specs.Opcodes.{value_opcodes}
-use borrow.Author.Rules.{rules}
 use Rattle.piece_block.proofs.opcodes.value_rank.Goals as goal
 
 pub likely-requires : goal.likely-requires

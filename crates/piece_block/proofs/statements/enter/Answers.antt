@@ -1,6 +1,5 @@
 -- The definition makes the same two tests.
 use Rattle.piece_block.proofs.StatementLaws.{entered_not, entered_later, entered_first}
-use borrow.Author.Rules.{rules}
 use Rattle.piece_block.proofs.statements.enter.Goals as goal
 
 pub returns-then-b-ne0 : goal.returns-then-b-ne0

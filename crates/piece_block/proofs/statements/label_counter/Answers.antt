@@ -1,6 +1,5 @@
 -- Behind an instruction no label may stand; before the first its name is judged.
 use Rattle.piece_block.proofs.StatementLaws.{labelled_first, labelled_late}
-use borrow.Author.Rules.{rules}
 use Rattle.piece_block.proofs.statements.label_counter.Goals as goal
 
 pub returns-then-b-eq0 : goal.returns-then-b-eq0

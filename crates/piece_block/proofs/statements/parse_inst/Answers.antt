@@ -3,7 +3,6 @@ use Rattle.grammar.specs.Body.{parse_inst}
 use Rattle.lexer.proofs.Laws.{val, done, turn}
 use Rattle.piece_block.proofs.OpcodeLaws.{value_at_lem}
 use Rattle.inst_operands.proofs.RichLaws.{enrich, then_rich}
-use borrow.Author.Rules.{rules}
 use Rattle.piece_block.proofs.statements.parse_inst.Goals as goal
 
 pub shape_of-words : goal.shape_of-words

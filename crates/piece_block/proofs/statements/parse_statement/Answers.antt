@@ -2,7 +2,6 @@
 use Rattle.grammar.specs.Body.{parse_statement}
 use Rattle.lexer.proofs.Laws.{val, place_at, byte_yes, byte_no}
 use Rattle.piece_block.proofs.StatementLaws.{call_instruction}
-use borrow.Author.Rules.{rules}
 use Rattle.piece_block.proofs.statements.parse_statement.Goals as goal
 
 pub shape_of-words-then-looks : goal.shape_of-words-then-looks

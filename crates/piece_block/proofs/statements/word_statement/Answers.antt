@@ -6,7 +6,6 @@ use Rattle.piece_block.proofs.OpcodeLaws.{statement_at_lem, statement_end, state
 use Rattle.inst_operands.proofs.RichLaws.{enrich, then_rich}
 use Rattle.piece_block.specs.Stated.{an_instruction, a_terminator}
 use Rattle.piece_block.proofs.StatementLaws.{is_stated, is_label, word_then, statement_none, statement_some}
-use borrow.Author.Rules.{rules}
 use Rattle.piece_block.proofs.statements.word_statement.Goals as goal
 
 pub returns-then-x : goal.returns-then-x

@@ -1,9 +1,7 @@
-use mathlib.Core.Path.{◌≡◌, refl, ◌∙◌}
-use Prim.Native.Nat.{◌-◌, ◌≤◌}
+use mathlib.Core.Path.{refl, ◌∙◌}
 use native.Mathlib.Omega.{arith}
-use lib.ListN.{length, length-set}
-use Rattle.piece_directory.proofs.Stores.{zeros, zeros_none, zeros_more, zeros_all}
-use borrow.Author.Rules.{rules}
+use lib.ListN.{length-set}
+use Rattle.piece_directory.proofs.Stores.{zeros_none, zeros_more, zeros_all}
 use Rattle.piece_directory.proofs.arrays.clear.Goals as goal
 
 pub loop-i-init : goal.loop-i-init

@@ -1,10 +1,8 @@
 -- The invariant: what stands before i is as wanted; storing a 0 makes it so for i.
-use mathlib.Core.Path.{◌≡◌, refl, ◌∙◌}
+use mathlib.Core.Path.{◌≡◌}
 use Prim.Native.Nat.{◌-◌, ◌≤◌}
-use native.Mathlib.Omega.{arith}
-use lib.ListN.{length, length-set}
-use Rattle.piece_directory.proofs.Stores.{zeros, zeros_none, zeros_more, zeros_all}
-use borrow.Author.Rules.{rules}
+use lib.ListN.{length}
+use Rattle.piece_directory.proofs.Stores.{zeros}
 use Rattle.piece_directory.proofs.arrays.clear.Given as goal
 
 abbrev pub invariant-loop-i : goal.invariant-loop-i

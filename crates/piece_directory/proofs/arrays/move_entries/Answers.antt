@@ -1,6 +1,5 @@
 -- The copy keeps each entry's length and word count, and renumbering sets where each starts.
 use Rattle.piece_directory.proofs.Moved.{moved_room, moved_sizes, moved_words, moved_is}
-use borrow.Author.Rules.{rules}
 use Rattle.piece_directory.proofs.arrays.move_entries.Goals as goal
 
 pub renumber-requires : goal.renumber-requires

@@ -1,10 +1,9 @@
 use mathlib.Core.Path.{◌≡◌, refl, ◌∙◌}
-use Prim.Native.Nat.{◌+◌, ◌-◌, ◌≤◌}
+use Prim.Native.Nat.{◌+◌}
 use native.Mathlib.Omega.{arith}
-use lib.ListN.{length, drop, get_or, length-set}
-use lib.Seq.{paste, paste-zero}
+use lib.ListN.{drop, get_or, length-set}
+use lib.Seq.{paste-zero}
 use Rattle.piece_directory.proofs.Stores.{left_more}
-use borrow.Author.Rules.{rules}
 use Rattle.piece_directory.proofs.arrays.move_left.Goals as goal
 
 pub loop-i-init : goal.loop-i-init

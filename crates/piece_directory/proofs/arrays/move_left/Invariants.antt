@@ -1,11 +1,8 @@
 -- The invariant: the first i words are copied; the word read next lies behind all that was written.
-use mathlib.Core.Path.{◌≡◌, refl, ◌∙◌}
-use Prim.Native.Nat.{◌+◌, ◌-◌, ◌≤◌}
-use native.Mathlib.Omega.{arith}
-use lib.ListN.{length, drop, get_or, length-set}
-use lib.Seq.{paste, paste-zero}
-use Rattle.piece_directory.proofs.Stores.{left_more}
-use borrow.Author.Rules.{rules}
+use mathlib.Core.Path.{◌≡◌}
+use Prim.Native.Nat.{◌-◌, ◌≤◌}
+use lib.ListN.{length, drop}
+use lib.Seq.{paste}
 use Rattle.piece_directory.proofs.arrays.move_left.Given as goal
 
 abbrev pub invariant-loop-i : goal.invariant-loop-i

@@ -1,9 +1,8 @@
 use mathlib.Core.Path.{◌≡◌, refl, ap, ◌∙◌}
-use Prim.Native.Nat.{ℕ, ◌+◌, ◌-◌, ◌≤◌}
+use Prim.Native.Nat.{ℕ, ◌+◌, ◌-◌}
 use native.Mathlib.Omega.{arith}
-use lib.ListN.{length, get_or, length-set}
+use lib.ListN.{get_or, length-set}
 use Rattle.piece_directory.proofs.Stores.{right, right_first, right_last, right_more}
-use borrow.Author.Rules.{rules}
 use Rattle.piece_directory.proofs.arrays.move_right.Goals as goal
 
 pub loop-i-init : goal.loop-i-init

@@ -2,7 +2,6 @@
 use mathlib.Core.Path.{◌≡◌}
 use native.Mathlib.Omega.{arith}
 use Rattle.piece_directory.proofs.Stores.{stays}
-use borrow.Author.Rules.{rules}
 use Rattle.piece_directory.proofs.arrays.move_words.Goals as goal
 
 pub returns : goal.returns

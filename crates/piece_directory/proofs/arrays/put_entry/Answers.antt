@@ -3,7 +3,6 @@ use mathlib.Core.Path.{refl}
 use native.Mathlib.Omega.{arith}
 use lib.ListN.{length-set}
 use Rattle.records.specs.Words.{pack}
-use borrow.Author.Rules.{rules}
 use Rattle.piece_directory.proofs.arrays.put_entry.Goals as goal
 
 pub bounds-directory-i-2 : goal.bounds-directory-i-2

@@ -1,8 +1,6 @@
 use mathlib.Core.Path.{◌≡◌}
-use Prim.Native.Nat.{◌-◌}
 use native.Mathlib.Omega.{arith}
-use Rattle.piece_directory.proofs.Moved.{Renumbering, renumber_first, place_ends, first_ends, renumber_next}
-use borrow.Author.Rules.{rules}
+use Rattle.piece_directory.proofs.Moved.{renumber_first, place_ends, first_ends, renumber_next}
 use Rattle.piece_directory.proofs.arrays.renumber.Goals as goal
 
 pub loop-k-init : goal.loop-k-init

@@ -1,9 +1,6 @@
 -- The invariant: k entries are moved, and pos and word are where the next starts; sums stay below 2^32 as the last does; the counters stay.
-use mathlib.Core.Path.{◌≡◌}
 use Prim.Native.Nat.{◌-◌}
-use native.Mathlib.Omega.{arith}
-use Rattle.piece_directory.proofs.Moved.{Renumbering, renumber_first, place_ends, first_ends, renumber_next}
-use borrow.Author.Rules.{rules}
+use Rattle.piece_directory.proofs.Moved.{Renumbering}
 use Rattle.piece_directory.proofs.arrays.renumber.Given as goal
 
 abbrev pub invariant-loop-k : goal.invariant-loop-k

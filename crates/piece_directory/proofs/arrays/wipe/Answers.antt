@@ -1,7 +1,6 @@
 -- Zeros from 0 on are an array of zeros.
 use mathlib.Core.Path.{◌∙◌}
 use Rattle.piece_directory.proofs.Stores.{cleared}
-use borrow.Author.Rules.{rules}
 use Rattle.piece_directory.proofs.arrays.wipe.Goals as goal
 
 pub returns : goal.returns

@@ -11,7 +11,6 @@ use Rattle.piece_directory.specs.Olds.{olds_of, JoinsAt, JoinsNot}
 use Rattle.piece_room.proofs.Judge.{fitting}
 use Rattle.piece_room.specs.Rooms.{Asked}
 use Rattle.reread_passes.proofs.Dry.{took_inside, took_passed, took_size, took_room, took_more, took_refused, took_keep}
-use borrow.Author.Rules.{rules}
 use Rattle.reread_passes.proofs.first.follow.Goals as goal
 
 pub overflow_add-end : goal.overflow_add-end

@@ -1,12 +1,11 @@
 use mathlib.Core.Path.{subst}
-use Prim.Native.Nat.{◌+◌, ◌-◌, ◌≤◌, ◌<◌}
+use Prim.Native.Nat.{◌+◌, ◌≤◌, ◌<◌}
 use native.Mathlib.Omega.{arith}
 use lib.ListN.{length}
 use Rattle.piece_room.specs.Rooms.{Asked}
 use Rattle.reread_passes.specs.Numbered.{PieceDry}
-use Rattle.reread_passes.specs.First.{Dry, Follows}
+use Rattle.reread_passes.specs.First.{Follows}
 use Rattle.reread_passes.proofs.Dry.{all_kept, dry_first, dry_bad, dry_tail_inside, dry_tail_room, dry_tail, took_inside, took_on, falls}
-use borrow.Author.Rules.{rules}
 use Rattle.reread_passes.proofs.first.read_dry.Goals as goal
 
 pub returns-then-number-entries : goal.returns-then-number-entries

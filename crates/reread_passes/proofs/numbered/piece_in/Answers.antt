@@ -1,6 +1,5 @@
 -- Piece 0 is the head, any other a block or the tail.
 use Rattle.reread_passes.proofs.Dry.{head_first_in, block_later_in}
-use borrow.Author.Rules.{rules}
 use Rattle.reread_passes.proofs.numbered.piece_in.Goals as goal
 
 pub returns-then-spot-eq0 : goal.returns-then-spot-eq0

@@ -1,9 +1,7 @@
 use mathlib.Core.Path.{◌∙◌, subst}
-use Prim.Native.Nat.{◌-◌}
 use native.Mathlib.Omega.{arith}
 use Rattle.reread_passes.specs.Numbered.{PieceIn}
-use Rattle.reread_passes.proofs.Rewrite.{Writing, writing_first, at_in, to_in, pos_in, writing_end, lid, entry_in, never_stops, tail_in, writing_tail, piece_in, words_in_lem, writing_next}
-use borrow.Author.Rules.{rules}
+use Rattle.reread_passes.proofs.Rewrite.{writing_first, at_in, to_in, pos_in, writing_end, lid, entry_in, never_stops, tail_in, writing_tail, piece_in, words_in_lem, writing_next}
 use Rattle.reread_passes.proofs.second.write.Goals as goal
 
 pub loop-number-init : goal.loop-number-init

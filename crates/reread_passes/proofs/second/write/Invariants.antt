@@ -1,10 +1,6 @@
 -- The invariant: the pieces up to `number` stand in the arrays, and nothing else changed. What is read is what the first pass counted, so none refuses.
-use mathlib.Core.Path.{◌∙◌, subst}
 use Prim.Native.Nat.{◌-◌}
-use native.Mathlib.Omega.{arith}
-use Rattle.reread_passes.specs.Numbered.{PieceIn}
-use Rattle.reread_passes.proofs.Rewrite.{Writing, writing_first, at_in, to_in, pos_in, writing_end, lid, entry_in, never_stops, tail_in, writing_tail, piece_in, words_in_lem, writing_next}
-use borrow.Author.Rules.{rules}
+use Rattle.reread_passes.proofs.Rewrite.{Writing}
 use Rattle.reread_passes.proofs.second.write.Given as goal
 
 abbrev pub invariant-loop-number : goal.invariant-loop-number
