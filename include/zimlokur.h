@@ -160,7 +160,7 @@ enum zimlokur_linkage {
  *   one. So a block without a label has its third word as its number. Question 26 refuses a number below the counter, one that is not
  *   below 2^32, and a label behind an instruction of its block.
  * Refused: *place is where, *entries is 0, and every word of both arrays is 0.
- * Answer, place and every word of both arrays are those of the definition `readingOf` of the text and the two lengths alone.
+ * Answer, place and every word of both arrays are those of the definition `reading_of` of the text and the two lengths alone.
  */
 uint64_t zimlokur_parse_define(const uint8_t *text, size_t text_len, uint64_t *words, size_t words_len, uint64_t *directory,
                                size_t directory_len, uint64_t *place, uint64_t *entries);
@@ -182,7 +182,7 @@ uint64_t zimlokur_parse_define(const uint8_t *text, size_t text_len, uint64_t *w
  *   refused ones may have been lent any older text and count. An accepted call that was lent another text or count ends this.
  * Question 22 asks of the older records nothing but their directory: at least two entries within the array, each beginning where the last
  * ended, inside the older text and the words, with a counter of at most 2^32.
- * Whatever older text, records and count are lent, answer, place and every word are those of the definition `rereadingOf` of both texts,
+ * Whatever older text, records and count are lent, answer, place and every word are those of the definition `rereading_of` of both texts,
  * both arrays and the count as they stood before the call: there is one result.
  */
 uint64_t zimlokur_reparse_define(const uint8_t *older, size_t older_len, const uint8_t *newer, size_t newer_len, uint64_t *words,
@@ -202,7 +202,7 @@ void zimlokur_position(const uint8_t *text, size_t text_len, uint64_t place, uin
  *   the array. The place is counted without wrapping, whatever the case count.
  * A step goes forward: at < *to < words_len. Nothing more is asked of the words: a header whose extent reaches past the array or past its
  *   parent's end is stepped from and to like any other.
- * Answer and *to are those of the definition `childOf`.
+ * Answer and *to are those of the definition `child_of`.
  */
 uint64_t zimlokur_child(const uint64_t *words, size_t words_len, uint64_t at, uint64_t *to);
 
@@ -213,7 +213,7 @@ uint64_t zimlokur_child(const uint64_t *words, size_t words_len, uint64_t at, ui
  * A step goes forward: at < *to < words_len, and *to < end.
  * Over words that an accepted reading left: from place 0, the child, else the next one below words_len, meets every node one time, each
  *   before those below it; the child, then the next ones below the parent's end, are the parent's children.
- * Answer and *to are those of the definition `nextOf`.
+ * Answer and *to are those of the definition `next_of`.
  */
 uint64_t zimlokur_next(const uint64_t *words, size_t words_len, uint64_t at, uint64_t end, uint64_t *to);
 
@@ -223,7 +223,7 @@ uint64_t zimlokur_next(const uint64_t *words, size_t words_len, uint64_t at, uin
  * Returns 1 with where the part starts in the piece in *start and its number of bytes in *length: *start + *length is at most piece_len.
  * Returns 0 with 0 in both where the word is 0, which is no name, or the part reaches past the piece. Of an accepted reading every name
  *   but 0 lies in its piece.
- * Answer, *start and *length are those of the definition `partOf`.
+ * Answer, *start and *length are those of the definition `part_of`.
  */
 uint64_t zimlokur_name(const uint8_t *piece, size_t piece_len, uint64_t name, uint64_t *start, uint64_t *length);
 
@@ -237,7 +237,7 @@ uint64_t zimlokur_name(const uint8_t *piece, size_t piece_len, uint64_t name, ui
  * *place is 0. The map of m bytes fits m bytes; a block's name is written again for each of its targets, so no multiple of the text's length
  *   is always enough: where 27 comes back with less than 16,777,216 bytes lent, lend more.
  * Any records may be lent: nothing undefined happens, nothing but map, *place and *length is written, and the work grows no faster than the
- *   words, directory and text lent, and the map up to its limit. Return value, map and *length are those of the definition `blockMap`.
+ *   words, directory and text lent, and the map up to its limit. Return value, map and *length are those of the definition `block_map`.
  */
 uint64_t zimlokur_block_map(const uint8_t *text, size_t text_len, const uint64_t *words, size_t words_len, const uint64_t *directory,
                             size_t directory_len, uint64_t entries, uint8_t *map, size_t map_len, uint64_t *place, uint64_t *length);
