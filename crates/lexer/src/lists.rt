@@ -13,7 +13,8 @@ use crate::{Parsed, eat_ws, looks, pass, refuse};
 pub fn count_child(p: Parsed, n: u16) -> Parsed
     ensures { result ≡ counted_p n p }
 {
-    if n < records::CHILD_LIMIT {
+    let more = n < records::CHILD_LIMIT;
+    if more {
         return p;
     }
     refuse(p, records::Q_CHILDREN)

@@ -104,7 +104,8 @@ pub fn block_map(
     ensures { drawn_by result out.new ≡ block_map (length out.old) entries text.now words.now directory.now }
 {
     let n = put_map(out, text, words, directory, entries);
-    if n <= records::TEXT_LIMIT {
+    let within = n <= records::TEXT_LIMIT;
+    if within {
         if n <= out.len() {
             clear(out, n);
             return Drawn::Map(n);

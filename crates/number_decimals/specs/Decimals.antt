@@ -74,8 +74,8 @@ unfoldable pub powered_bits : ℕ → ℕ → ℕ → ℕ → Bool → Option �
 powered_bits m zeros behind e down = scaled_bits m (pick down 0 e + counted zeros) (counted behind + pick down e 0)
 
 unfoldable pub exponent_bits : ℕ → ℕ → ℕ → Bool → Val → Option ℕ
-exponent_bits m zeros behind down (Exact e) = powered_bits m zeros behind e down
-exponent_bits m zeros behind down Over = none
+exponent_bits m noughts behind down (Exact e) = powered_bits m noughts behind e down
+exponent_bits m noughts behind down Over = none
 
 unfoldable pub float_in : Mantissa → ℕ → Val → Bool → Option ℕ
 float_in s behind p down =

@@ -3,8 +3,8 @@ use mathlib.Core.Path.{◌∙◌, sym}
 use borrow.Author.Tests.{lt-ltb, le-ltb}
 use Rattle.lexer.proofs.lists.count_child.Goals as goal
 
-pub returns-then-n-lt-CHILD_LIMIT : goal.returns-then-n-lt-CHILD_LIMIT
-returns-then-n-lt-CHILD_LIMIT c = rw (lt-ltb _ _ c.if-n-lt-CHILD_LIMIT.true)
+pub returns-then-more : goal.returns-then-more
+returns-then-more c = rw (lt-ltb _ _ c.if-more.true)
 
 pub returns : goal.returns
-returns c = c.refuse.ensures ∙ sym (rw (le-ltb _ _ c.if-n-lt-CHILD_LIMIT.false))
+returns c = c.refuse.ensures ∙ sym (rw (le-ltb _ _ c.if-more.false))

@@ -8,13 +8,13 @@ use borrow.Author.Tests.{le-leb, lt-leb}
 use Rattle.number_decimals.specs.Decimals.{few_digits, significant_pushed}
 use Rattle.number_decimals.proofs.mantissa.significant.Goals as goal
 
-first : (sig zeros d : ℕ) → zeros ≡ 0 → few_digits (sig * 10 + d) 0 ≡ significant_pushed sig zeros d
+first : (sig noughts d : ℕ) → noughts ≡ 0 → few_digits (sig * 10 + d) 0 ≡ significant_pushed sig noughts d
 unfolding significant_pushed
-first sig zeros d e = rw e
+first sig noughts d e = rw e
 
-later : (sig zeros d p : ℕ) → zeros < 15 → p ≡ 10 ^ (zeros + 1) → few_digits (sig * p + d) 0 ≡ significant_pushed sig zeros d
+later : (sig noughts d p : ℕ) → noughts < 15 → p ≡ 10 ^ (noughts + 1) → few_digits (sig * p + d) 0 ≡ significant_pushed sig noughts d
 unfolding significant_pushed
-later sig zeros d p h e = simp (lt-leb 15 zeros h, e)
+later sig noughts d p h e = simp (lt-leb 15 noughts h, e)
 
 pub returns-then-zeros-ge-DIGITS : goal.returns-then-zeros-ge-DIGITS
 unfolding significant_pushed
