@@ -19,7 +19,8 @@ pub fn short_digits(classes: &[u8; 256], text: &[u8], at: usize) -> Short
     while i < text.len() {
         let d = class(classes, text[i]);
         if DIGIT <= d {
-            if d < SPACE {
+            let in_name = d < SPACE;
+            if in_name {
                 return Short {
                     at: i,
                     v,

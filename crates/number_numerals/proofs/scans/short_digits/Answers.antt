@@ -7,11 +7,11 @@ use Rattle.number_numerals.proofs.scans.short_digits.Goals as goal
 pub loop-i-init : goal.loop-i-init
 loop-i-init c = short_start _ _
 
-pub returns-then-d-lt-SPACE : goal.returns-then-d-lt-SPACE
-returns-then-d-lt-SPACE c = λ e. true_false e
+pub returns-then-in_name : goal.returns-then-in_name
+returns-then-in_name c = λ e. true_false e
 
 pub returns-then-d-ge-DIGIT : goal.returns-then-d-ge-DIGIT
-returns-then-d-ge-DIGIT c = λ e. short_stop c.loop-i.invariant c.loop-i-test.true c.class-d.ensures c.if-d-lt-SPACE.false (ltb-true _ _ e)
+returns-then-d-ge-DIGIT c = λ e. short_stop c.loop-i.invariant c.loop-i-test.true c.class-d.ensures c.if-in_name.false (ltb-true _ _ e)
 
 pub returns-then-v-ge-TENFOLD_LIMIT : goal.returns-then-v-ge-TENFOLD_LIMIT
 returns-then-v-ge-TENFOLD_LIMIT c = λ e. true_false e
