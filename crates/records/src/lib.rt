@@ -142,6 +142,13 @@ pub const D_NAMED: u8 = 1; // a parameter with a name
 
 pub const D_VALUE: u8 = 1; // a `ret` with a value
 
+// A refusal: the number of the question that says no, and the place.
+#[derive(Clone, Copy, Debug, PartialEq, Eq)]
+pub struct Refusal {
+    pub question: u64,
+    pub place: usize,
+}
+
 // The questions.
 pub const Q_LENGTH: u64 = 1;
 
