@@ -18,8 +18,7 @@ use Rattle.lexer.specs.Step.{bumped}
 use Rattle.node_words.specs.Writes.{pushed, pushes}
 use Rattle.lexer.specs.Reads.{Stands, Ends, at, Leads, Goal, made, same}
 use Rattle.lexer.specs.declared.Cursor.{Cursor}
-use Rattle.lexer.specs.declared.Parsed.{Parsed}
-use Rattle.lexer.specs.declared.Parsed.TheVariants.{Ok, Refused}
+use Rattle.lexer.specs.Parsed.{Parsed, Ok, Refused}
 use Rattle.node_words.proofs.Words.{pushed as stands-more}
 use Rattle.lexer.proofs.Laws.{no_ok}
 use Rattle.inst_operands.specs.Found.{There, Found}

@@ -13,8 +13,7 @@ use Rattle.grammar.specs.Types.{TypeOut, parse_type}
 use Rattle.grammar.specs.Instructions.{is_void}
 use Rattle.lexer.specs.Reads.{Inside}
 use Rattle.lexer.specs.declared.Cursor.{Cursor}
-use Rattle.lexer.specs.declared.Parsed.{Parsed}
-use Rattle.lexer.specs.declared.Parsed.TheVariants.{Ok, Refused}
+use Rattle.lexer.specs.Parsed.{Parsed, Ok, Refused}
 
 -- what stands before a call's callee, but for a function type
 abbrev pub call_type : Prog TypeOut

@@ -14,8 +14,7 @@ use Rattle.node_words.specs.Writes.{joined, pushed, pushes}
 use Rattle.lexer.specs.Step.{bumped}
 use Rattle.lexer.specs.Reads.{Budget, Stands, At, Ends, at, out, Leads, Goal, made, same, Gave, got, not, Gives}
 use Rattle.lexer.specs.declared.Cursor.{Cursor}
-use Rattle.lexer.specs.declared.Parsed.{Parsed}
-use Rattle.lexer.specs.declared.Parsed.TheVariants.{Ok, Refused}
+use Rattle.lexer.specs.Parsed.{Parsed, Ok, Refused}
 use Rattle.node_words.proofs.Words.{front}
 use Rattle.lexer.proofs.Laws.{after, bind_at, at_less, at_place, at_part, at_whole}
 use Rattle.node_words.proofs.Laws.{at_push}

@@ -11,8 +11,7 @@ use Rattle.grammar.specs.Types.{Listed, TypeOut, plain, opened, whole, whole_of}
 use Rattle.node_words.specs.Writes.{joined}
 use Rattle.lexer.specs.Reads.{Budget, Stands, At, Ends, at, out, Leads, Goal, made, same}
 use Rattle.lexer.specs.declared.Cursor.{Cursor}
-use Rattle.lexer.specs.declared.Parsed.{Parsed}
-use Rattle.lexer.specs.declared.Parsed.TheVariants.{Ok, Refused}
+use Rattle.lexer.specs.Parsed.{Parsed, Ok, Refused}
 use Rattle.node_words.proofs.Words.{front}
 use Rattle.lexer.proofs.Laws.{after, bind_at, no_ok, at_less, at_part, at_whole}
 use Rattle.types.specs.Reading.{TypeEnds, read, back, none, typed, Listing}

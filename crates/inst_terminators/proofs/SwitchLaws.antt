@@ -19,8 +19,7 @@ use Rattle.node_words.specs.Writes.{joined, pushed, pushes, closes, patches, res
 use Rattle.lexer.specs.Step.{looks_p, passed, refused, counted_p}
 use Rattle.lexer.specs.Reads.{Budget, At, Ends, at, out, Leads, Goal, made, same, Inside, Gave, got, not, Gives}
 use Rattle.lexer.specs.declared.Cursor.{Cursor}
-use Rattle.lexer.specs.declared.Parsed.{Parsed}
-use Rattle.lexer.specs.declared.Parsed.TheVariants.{Ok, Refused}
+use Rattle.lexer.specs.Parsed.{Parsed, Ok, Refused}
 use Rattle.lexer.proofs.Laws.{no_ok, true_false, after, bind_at, at_less, more, no_more, Passes, val, val_paid, token_yes, token_no, spare, fail_is, write_then}
 use Rattle.node_words.proofs.Laws.{push_then, patch_then, close_is}
 use Rattle.lexer.proofs.Children.{g_child, in_room}

@@ -2,8 +2,7 @@
 -- Assumes nothing.
 use Rattle.std.specs.Prelude.{Bool, true, false, List, ℕ, ltb, get_or}
 use Rattle.program.specs.Choice.{pick}
-use Rattle.lexer.specs.declared.Parsed.{Parsed}
-use Rattle.lexer.specs.declared.Parsed.TheVariants.{Ok, Refused}
+use Rattle.lexer.specs.Parsed.{Parsed, Ok, Refused}
 
 -- word i of those that were written from the array's start on
 abbrev pub taken_p : ℕ → Parsed → List ℕ → ℕ

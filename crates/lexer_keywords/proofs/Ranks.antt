@@ -17,8 +17,7 @@ use Rattle.lexer.specs.Table.{cut, full}
 use Rattle.lexer.specs.Step.{passed, rank_p, ranked_p}
 use Rattle.lexer.specs.Reads.{Leads, Goal, Inside, Aim, Finds}
 use Rattle.lexer.specs.declared.Cursor.{Cursor}
-use Rattle.lexer.specs.declared.Parsed.{Parsed}
-use Rattle.lexer.specs.declared.Parsed.TheVariants.{Ok, Refused}
+use Rattle.lexer.specs.Parsed.{Parsed, Ok, Refused}
 use Rattle.program.specs.Lists.{drop_next}
 use Rattle.lexer.proofs.Scan.{wordy, wordless}
 use Rattle.lexer.proofs.Laws.{moved, g_moved, run_eat_n, pass_in}

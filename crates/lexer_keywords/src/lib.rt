@@ -5,7 +5,7 @@ ghost use Rattle.std.specs.Prelude.{◌≡◌, ◌+◌, ◌-◌, ◌≤◌, leng
 ghost use Rattle.program.specs.Prog.{lead_word};
 ghost use Rattle.grammar.specs.Lexer.{same_word, rank, skip_one, skip_all};
 ghost use Rattle.records.specs.Limits.{turns};
-ghost use Rattle.lexer.specs.Table.{Classes, cut};
+ghost use Rattle.lexer.specs.Table.{cut};
 ghost use Rattle.lexer.specs.Step.{rank_p, ranked_p};
 ghost use Rattle.lexer.specs.Reads.{Gives};
 
@@ -81,13 +81,12 @@ pub fn rank_of(text: &[u8], from: usize, to: usize, lens: &[u8], bytes: &[u8]) -
 }
 
 // The place behind the letters, digits and `_` that stand at `at`.
-fn word_end(classes: &[u8; 256], text: &[u8], at: usize) -> usize
-    requires { Classes classes.now }
+fn word_end(text: &[u8], at: usize) -> usize
     ensures { result ≡ at + length (lead_word (drop at text.now)) }
 {
     let mut i = at;
     while i < text.len() {
-        if WORD < class(classes, text[i]) {
+        if WORD < class(text[i]) {
             return i;
         }
         i += 1;
@@ -96,14 +95,13 @@ fn word_end(classes: &[u8; 256], text: &[u8], at: usize) -> usize
 }
 
 // The next word's rank, and where the reader is behind it; the table's length, and where it is, if the table has it not.
-pub fn match_rank(classes: &[u8; 256], text: &[u8], p: Parsed, lens: &[u8], bytes: &[u8]) -> Ranked
-    requires { Classes classes.now }
+pub fn match_rank(text: &[u8], p: Parsed, lens: &[u8], bytes: &[u8]) -> Ranked
     ensures { (result.r ≡ rank_p (cut lens.now bytes.now) text.now p) × (result.p ≡ ranked_p (cut lens.now bytes.now) text.now p) }
 {
     match p {
         Parsed::Ok(c) => {
             let at = c.at;
-            let i = word_end(classes, text, at);
+            let i = word_end(text, at);
             let r = rank_of(text, at, i, lens, bytes);
             if r < lens.len() {
                 return Ranked {
@@ -124,25 +122,23 @@ pub fn match_rank(classes: &[u8; 256], text: &[u8], p: Parsed, lens: &[u8], byte
 }
 
 // White space, and one keyword of a table, if any stands there.
-pub fn skip_one(classes: &[u8; 256], text: &[u8], p: Parsed, lens: &[u8], bytes: &[u8]) -> Parsed
-    requires { Classes classes.now }
+pub fn skip_one(text: &[u8], p: Parsed, lens: &[u8], bytes: &[u8]) -> Parsed
     ensures { Gives (skip_one (cut lens.now bytes.now)) tt text.now p result }
 {
-    let q = eat_ws(classes, text, p);
-    let k = match_rank(classes, text, q, lens, bytes);
+    let q = eat_ws(text, p);
+    let k = match_rank(text, q, lens, bytes);
     k.p
 }
 
 // White space and keywords of a table, as many as stand there.
-pub fn skip_all(classes: &[u8; 256], text: &[u8], p: Parsed, lens: &[u8], bytes: &[u8]) -> Parsed
-    requires { Classes classes.now }
+pub fn skip_all(text: &[u8], p: Parsed, lens: &[u8], bytes: &[u8]) -> Parsed
     ensures { Gives (skip_all turns (cut lens.now bytes.now)) tt text.now p result }
 {
     let mut q = p;
     let mut left: usize = records::TURNS;
     while 0 < left {
-        let q1 = eat_ws(classes, text, q);
-        let k = match_rank(classes, text, q1, lens, bytes);
+        let q1 = eat_ws(text, q);
+        let k = match_rank(text, q1, lens, bytes);
         let r = k.r;
         q = k.p;
         if lens.len() <= r {

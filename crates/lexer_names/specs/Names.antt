@@ -7,8 +7,7 @@ use Rattle.program.specs.Prog.{Prog, ◌>>=◌}
 use Rattle.grammar.specs.Lexer.{quote_step, cstring_step, Word, plain, quoted, size_of, is_empty_word, unescape, read_word, name_word, eat_ws, byte_if, refuse}
 use Rattle.lexer.specs.Reads.{Gives}
 use Rattle.lexer_names.specs.declared.Letter.{Letter}
-use Rattle.lexer.specs.declared.Parsed.{Parsed}
-use Rattle.lexer.specs.declared.Parsed.TheVariants.{Refused}
+use Rattle.lexer.specs.Parsed.{Parsed, Refused}
 use Rattle.lexer_names.specs.declared.WordAt.{WordAt}
 
 -- the bytes of a text from a place to another

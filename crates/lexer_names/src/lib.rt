@@ -7,7 +7,6 @@ pub mod skips; // skips.rt: what is passed over, and byte strings
 ghost use Rattle.std.specs.Prelude.{◌≡◌, List, ℕ, ◌+◌, ◌≤◌, ◌<◌, drop};
 ghost use Rattle.program.specs.Prog.{scan_len};
 ghost use Rattle.grammar.specs.Lexer.{name_step, quote_step, name_of, name_word, parse_local_name, parse_global_name};
-ghost use Rattle.lexer.specs.Table.{Classes};
 ghost use Rattle.lexer.specs.Step.{step_code};
 ghost use Rattle.lexer.specs.Reads.{Gives};
 ghost use Rattle.lexer.specs.declared.Parsed.{Parsed};
@@ -37,13 +36,12 @@ pub struct Letter {
 }
 
 // The place behind the name that stands at `at`.
-fn name_end(classes: &[u8; 256], text: &[u8], at: usize) -> usize
-    requires { Classes classes.now }
+fn name_end(text: &[u8], at: usize) -> usize
     ensures { result ≡ at + scan_len name_step 0 (drop at text.now) }
 {
     let mut i = at;
     while i < text.len() {
-        if lexer::limits::NAME < lexer::class(classes, text[i]) {
+        if lexer::limits::NAME < lexer::class(text[i]) {
             return i;
         }
         i += 1;
@@ -52,8 +50,7 @@ fn name_end(classes: &[u8; 256], text: &[u8], at: usize) -> usize
 }
 
 // Between quotes: 0 stop, else one more than the state behind b, which is 1 behind `\` and 2 behind its first digit.
-pub fn quote_step(classes: &[u8; 256], q: u8, b: u8) -> u8
-    requires { Classes classes.now }
+pub fn quote_step(q: u8, b: u8) -> u8
     ensures { result ≡ step_code (quote_step q b) }
 {
     if q == 0 {
@@ -72,12 +69,12 @@ pub fn quote_step(classes: &[u8; 256], q: u8, b: u8) -> u8
         if b == b'\\' {
             return 1;
         }
-        if lexer::class(classes, b) < lexer::limits::HEX {
+        if lexer::class(b) < lexer::limits::HEX {
             return 3;
         }
         return 0;
     }
-    if lexer::class(classes, b) < lexer::limits::HEX {
+    if lexer::class(b) < lexer::limits::HEX {
         return 1;
     }
     0
@@ -96,8 +93,7 @@ fn no_word(e: u64, at: usize) -> WordAt
 }
 
 // A name, quoted or not; it may be empty.
-pub fn read_word(classes: &[u8; 256], text: &[u8], p: Parsed) -> WordAt
-    requires { Classes classes.now }
+pub fn read_word(text: &[u8], p: Parsed) -> WordAt
     ensures { WordIs text.now p result }
 {
     match p {
@@ -105,7 +101,7 @@ pub fn read_word(classes: &[u8; 256], text: &[u8], p: Parsed) -> WordAt
             let at = c.at;
             if lexer::at_byte(text, at, b'"') {
                 let from = at + 1;
-                let x = string_end(classes, text, from, false);
+                let x = string_end(text, from, false);
                 let i = x.at;
                 if x.q != 0 {
                     return no_word(records::Q_ESCAPE, i);
@@ -121,7 +117,7 @@ pub fn read_word(classes: &[u8; 256], text: &[u8], p: Parsed) -> WordAt
                 }
                 return no_word(records::Q_CLOSED, i);
             }
-            let i = name_end(classes, text, at);
+            let i = name_end(text, at);
             WordAt {
                 p: Parsed::Ok(Cursor { at: i, w: c.w }),
                 start: at,
@@ -161,41 +157,37 @@ pub fn name_of(x: WordAt, at: usize) -> Num
 }
 
 // A name behind its sigil, as its word.
-pub fn name_word(classes: &[u8; 256], text: &[u8], p: Parsed) -> Num
-    requires { Classes classes.now }
+pub fn name_word(text: &[u8], p: Parsed) -> Num
     ensures { Gives name_word result.v text.now p result.p }
 {
     let at = lexer::place(p);
-    let x = read_word(classes, text, p);
+    let x = read_word(text, p);
     name_of(x, at)
 }
 
 // White space, and a name with the sigil b.
-fn sigil_name(classes: &[u8; 256], text: &[u8], p: Parsed, b: u8) -> Num
-    requires { Classes classes.now }
+fn sigil_name(text: &[u8], p: Parsed, b: u8) -> Num
     ensures { Gives (sigil_name b) result.v text.now p result.p }
 {
-    let q = lexer::eat_ws(classes, text, p);
+    let q = lexer::eat_ws(text, p);
     if lexer::looks(text, q, b) {
         let q2 = lexer::pass(text, q, 1);
-        return name_word(classes, text, q2);
+        return name_word(text, q2);
     }
     let q3 = lexer::refuse(q, records::Q_TOKEN);
     Num { p: q3, v: 0 }
 }
 
 // `%name`
-pub fn parse_local_name(classes: &[u8; 256], text: &[u8], p: Parsed) -> Num
-    requires { Classes classes.now }
+pub fn parse_local_name(text: &[u8], p: Parsed) -> Num
     ensures { Gives parse_local_name result.v text.now p result.p }
 {
-    sigil_name(classes, text, p, b'%')
+    sigil_name(text, p, b'%')
 }
 
 // `@name`
-pub fn parse_global_name(classes: &[u8; 256], text: &[u8], p: Parsed) -> Num
-    requires { Classes classes.now }
+pub fn parse_global_name(text: &[u8], p: Parsed) -> Num
     ensures { Gives parse_global_name result.v text.now p result.p }
 {
-    sigil_name(classes, text, p, b'@')
+    sigil_name(text, p, b'@')
 }

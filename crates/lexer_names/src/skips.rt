@@ -2,7 +2,6 @@
 ghost use Rattle.std.specs.Prelude.{◌≡◌, ◌+◌, ◌≤◌, drop};
 ghost use Rattle.program.specs.Prog.{scan_len};
 ghost use Rattle.grammar.specs.Lexer.{balance_step, balanced, skip_parens, skip_metadata_ref, three_dots, cstring_step, cstring_at};
-ghost use Rattle.lexer.specs.Table.{Classes};
 ghost use Rattle.lexer.specs.Step.{step_code};
 ghost use Rattle.lexer.specs.Reads.{Gives};
 
@@ -55,11 +54,10 @@ pub fn balanced(text: &[u8], p: Parsed, left: u8, right: u8) -> Parsed
 }
 
 // White space, and `( .. )`.
-pub fn skip_parens(classes: &[u8; 256], text: &[u8], p: Parsed) -> Parsed
-    requires { Classes classes.now }
+pub fn skip_parens(text: &[u8], p: Parsed) -> Parsed
     ensures { Gives skip_parens tt text.now p result }
 {
-    let q = lexer::eat_ws(classes, text, p);
+    let q = lexer::eat_ws(text, p);
     if lexer::looks(text, q, b'(') {
         let q2 = lexer::pass(text, q, 1);
         return balanced(text, q2, b'(', b')');
@@ -68,20 +66,19 @@ pub fn skip_parens(classes: &[u8; 256], text: &[u8], p: Parsed) -> Parsed
 }
 
 // A metadata attachment, behind its first `!`.
-pub fn skip_metadata_ref(classes: &[u8; 256], text: &[u8], p: Parsed) -> Parsed
-    requires { Classes classes.now }
+pub fn skip_metadata_ref(text: &[u8], p: Parsed) -> Parsed
     ensures { Gives skip_metadata_ref tt text.now p result }
 {
-    let x = read_word(classes, text, p);
+    let x = read_word(text, p);
     let q = x.p;
-    let q1 = lexer::eat_ws(classes, text, q);
+    let q1 = lexer::eat_ws(text, q);
     if lexer::looks(text, q1, b'!') {
         let q2 = lexer::pass(text, q1, 1);
         if lexer::looks(text, q2, b'{') {
             let q3 = lexer::pass(text, q2, 1);
             return balanced(text, q3, b'{', b'}');
         }
-        let y = read_word(classes, text, q2);
+        let y = read_word(text, q2);
         return y.p;
     }
     q1
@@ -107,8 +104,7 @@ pub fn three_dots(text: &[u8], p: Parsed, e: u64) -> Parsed
 }
 
 // Between the quotes of a byte string: 0 stop, else one more than the state behind b, which is 1 behind `\` and 2 behind its first digit.
-pub fn cstring_step(classes: &[u8; 256], q: u8, b: u8) -> u8
-    requires { Classes classes.now }
+pub fn cstring_step(q: u8, b: u8) -> u8
     ensures { result ≡ step_code (cstring_step q b) }
 {
     if q == 0 {
@@ -121,26 +117,25 @@ pub fn cstring_step(classes: &[u8; 256], q: u8, b: u8) -> u8
         return 1;
     }
     if q == 1 {
-        if lexer::class(classes, b) < lexer::limits::HEX {
+        if lexer::class(b) < lexer::limits::HEX {
             return 3;
         }
         return 1;
     }
-    if lexer::class(classes, b) < lexer::limits::HEX {
+    if lexer::class(b) < lexer::limits::HEX {
         return 1;
     }
     0
 }
 
 // A byte string behind its quote, which is at `at`, as its word. Where an escape is cut off the byte behind the cursor is taken before the refusal.
-pub fn cstring(classes: &[u8; 256], text: &[u8], p: Parsed, at: usize) -> Num
-    requires { Classes classes.now }
+pub fn cstring(text: &[u8], p: Parsed, at: usize) -> Num
     ensures { at ≤ 16777216 → Gives (cstring_at at) result.v text.now p result.p }
 {
     match p {
         Parsed::Ok(c) => {
             let from = c.at;
-            let x = string_end(classes, text, from, true);
+            let x = string_end(text, from, true);
             let i = x.at;
             let q = x.q;
             if q == 0 {

@@ -12,8 +12,7 @@ use Rattle.lexer.specs.Step.{bumped}
 use Rattle.node_words.specs.Writes.{pushed, pushes, header_of, closes, patches, replaced, replaces}
 use Rattle.lexer.specs.Reads.{Stands, Budget, At, Ends, at, Leads, Goal, made, same}
 use Rattle.lexer.specs.declared.Cursor.{Cursor}
-use Rattle.lexer.specs.declared.Parsed.{Parsed}
-use Rattle.lexer.specs.declared.Parsed.TheVariants.{Ok, Refused}
+use Rattle.lexer.specs.Parsed.{Parsed, Ok, Refused}
 use Rattle.node_words.proofs.Words.{front, pushed as stands-more, patched}
 use Rattle.lexer.proofs.Laws.{bump_in, at_less, at_small}
 

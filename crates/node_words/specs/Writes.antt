@@ -3,8 +3,7 @@
 use Rattle.std.specs.Prelude.{List, ℕ, ◌+◌, ◌-◌, ltb, set}
 use Rattle.program.specs.Choice.{pick}
 use Rattle.records.specs.Words.{header}
-use Rattle.lexer.specs.declared.Parsed.{Parsed}
-use Rattle.lexer.specs.declared.Parsed.TheVariants.{Ok, Refused}
+use Rattle.lexer.specs.Parsed.{Parsed, Ok, Refused}
 use Rattle.lexer.specs.Step.{bumped}
 
 -- one more word: where the cursor is then, and the words

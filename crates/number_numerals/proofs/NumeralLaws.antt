@@ -16,8 +16,7 @@ use Rattle.grammar.specs.Numbers.{Numeral, digit_step, value_of, halves, twos, l
 use Rattle.lexer.specs.Step.{taken, refused}
 use Rattle.lexer.specs.Reads.{Aim, Finds, Gives}
 use Rattle.lexer.specs.declared.Cursor.{Cursor}
-use Rattle.lexer.specs.declared.Parsed.{Parsed}
-use Rattle.lexer.specs.declared.Parsed.TheVariants.{Ok, Refused}
+use Rattle.lexer.specs.Parsed.{Parsed, Ok, Refused}
 use Rattle.lexer.proofs.Laws.{given as from-run, kept, g_then, g_done, g_byte_no, g_fail}
 use Rattle.number_integers.specs.Folds.{folded, all_digits, begins}
 use Rattle.number_integers.specs.Literals.{given}

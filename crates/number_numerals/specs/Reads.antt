@@ -3,8 +3,7 @@
 use Rattle.std.specs.Prelude.{◌≡◌, Bool, List, [], ◌∷◌, ℕ, ◌+◌, drop}
 use Rattle.grammar.specs.Numbers.{int, float, parse_numeral, Literal as Written}
 use Rattle.lexer.specs.Reads.{Gives}
-use Rattle.lexer.specs.declared.Parsed.{Parsed}
-use Rattle.lexer.specs.declared.Parsed.TheVariants.{Ok, Refused}
+use Rattle.lexer.specs.Parsed.{Parsed, Ok, Refused}
 use Rattle.number_numerals.specs.Numerals.{onward, reach}
 use Rattle.number_integers.specs.declared.literal.Literal.TheVariants.{Int, Float, Refused as Question}
 use Rattle.number_integers.specs.declared.literal.Literal.{Literal}

@@ -1,8 +1,7 @@
 -- The answer of a reader as a piece.
 -- Assumes nothing.
 use Rattle.std.specs.Prelude.{ℕ}
-use Rattle.lexer.specs.declared.Parsed.{Parsed}
-use Rattle.lexer.specs.declared.Parsed.TheVariants.{Ok, Refused}
+use Rattle.lexer.specs.Parsed.{Parsed, Ok, Refused}
 use Rattle.piece_directory.specs.declared.pieces.Piece.{Piece}
 use Rattle.piece_directory.specs.declared.pieces.Piece.TheVariants.{Read, Tail, Refused as NoPiece}
 

@@ -15,8 +15,7 @@ use Rattle.grammar.specs.Lexer.{is_byte, same_word, skip_parens}
 use Rattle.grammar.specs.Types.{opt_addrspace}
 use Rattle.lexer.specs.Step.{looks_p, word_p}
 use Rattle.lexer.specs.Reads.{Leads, made, same, Gives}
-use Rattle.lexer.specs.declared.Parsed.{Parsed}
-use Rattle.lexer.specs.declared.Parsed.TheVariants.{Ok, Refused}
+use Rattle.lexer.specs.Parsed.{Parsed, Ok, Refused}
 use Rattle.lexer.proofs.Laws.{true_false, same_word_lem, g_done, g_word_no, done}
 
 -- ---- where no `a` stands, no `addrspace` does

@@ -16,8 +16,7 @@ use Rattle.grammar.specs.Types.{Listed, listed, TypeOut, room, child, whole, typ
 use Rattle.grammar.specs.Values.{conv_ops, bin_ops, prefix_if, digit_if, numeric_or, leaf_values, pair_with, pair_child, aggregate, packed_const, gep_indices, const_exprs, value_with, parse_value, parse_typed_val}
 use Rattle.lexer.specs.Step.{place_p, refused, counted_p}
 use Rattle.lexer.specs.Reads.{Leads, Goal, made, reach, same, Gives, Comes, Counts}
-use Rattle.lexer.specs.declared.Parsed.{Parsed}
-use Rattle.lexer.specs.declared.Parsed.TheVariants.{Ok, Refused}
+use Rattle.lexer.specs.Parsed.{Parsed, Ok, Refused}
 use Rattle.lexer.proofs.Laws.{more, no_more, no_ok, done, stay, then, val, fail_is, call, place_at}
 use Rattle.lexer.proofs.Children.{assoc, child_is, counted_hands, if_there, comma_yes, comma_no}
 use Rattle.types.specs.Reading.{Types}
