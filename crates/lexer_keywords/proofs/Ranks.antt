@@ -17,7 +17,7 @@ use Rattle.lexer.specs.Table.{cut, full}
 use Rattle.lexer.specs.Step.{passed, rank_p, ranked_p}
 use Rattle.lexer.specs.Reads.{Leads, Goal, Inside, Aim, Finds}
 use Rattle.lexer.specs.declared.Cursor.{Cursor}
-use Rattle.lexer.specs.Parsed.{Parsed, Ok, Refused}
+use Rattle.lexer.specs.Parsed.{Parsed, Ok, Refused, Err}
 use Rattle.program.specs.Lists.{drop_next}
 use Rattle.lexer.proofs.Scan.{wordy, wordless}
 use Rattle.lexer.proofs.Laws.{moved, g_moved, run_eat_n, pass_in}
@@ -199,7 +199,7 @@ module _ {A : Type 0} (text : List ℕ) (p q : Parsed) (r : ℕ) (table : List (
     where
       go : (y : Parsed) → p ≡ y → q ≡ p
       go (Ok cur) t = o.1 ∙ rw (t, miss h cur t)
-      go (Refused e x) t = o.1 ∙ rw t
+      go (Err r) t = o.1 ∙ rw t
 
   not_here : {B : Type 0} → r < length table → (e x : ℕ) → p ≡ Refused e x → B
   not_here h e x t = absurd (let z : r ≡ length table = rw t at o.0 in omega arith)
