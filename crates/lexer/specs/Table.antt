@@ -1,11 +1,11 @@
 -- Tables of keywords as the code has them.
 -- Assumes nothing.
-use Rattle.std.specs.Prelude.{Bool, true, false, List, [], ◌∷◌, ℕ, take, drop}
+use Rattle.std.specs.Prelude.{Bool, true, false, List, [], ◌∷◌, ℕ, map}
+use Rattle.std.proofs.Common.{Bor}
 
--- 01: "constant tables of lengths and bytes": the words of a table that has them one behind the other, and their lengths
-unfoldable pub cut : List ℕ → List ℕ → List (List ℕ)
-cut [] w = []
-cut (n ∷ ns) w = take n w ∷ cut ns (drop n w)
+-- 01: "constant tables": the words of a table, each a byte string
+abbrev pub words_of : List (Bor (List ℕ)) → List (List ℕ)
+words_of table = map (λ word. word.now) table
 
 -- no word of the table is empty
 abbrev pub full : List (List ℕ) → Bool
