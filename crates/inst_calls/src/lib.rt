@@ -40,9 +40,8 @@ fn parse_arg_list(text: &[u8], words: &mut [u64], p: Parsed, n: u16) -> Listed
         q = lexer::pass(text, q, 1);
         return Listed { p: q, n, dots: 0 };
     }
-    let mut left: usize = records::LIST_TURNS;
     let mut m: u16 = n;
-    while 0 < left {
+    for _left in (0..records::LIST_TURNS).rev() {
         q = lexer::eat_ws(text, q);
         if lexer::looks(text, q, b'.') {
             q = lexer_names::three_dots(text, q, records::Q_TYPE);
@@ -58,9 +57,7 @@ fn parse_arg_list(text: &[u8], words: &mut [u64], p: Parsed, n: u16) -> Listed
         let e = lexer::comma_or(text, q, b')');
         m = x.n;
         q = e.p;
-        if e.more {
-            left -= 1;
-        } else {
+        if !e.more {
             return Listed {
                 p: q,
                 n: m,

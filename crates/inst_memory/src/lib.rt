@@ -62,19 +62,22 @@ fn opt_scope(text: &[u8], p: Parsed) -> Parsed
     p
 }
 
+static ORDERINGS: [&[u8]; 6] = [
+    b"seq_cst",
+    b"acq_rel",
+    b"acquire",
+    b"release",
+    b"monotonic",
+    b"unordered",
+];
+
 // A scope and an ordering, where they stand (`skip_atomic_ordering`).
 pub fn skip_atomic_ordering(text: &[u8], p: Parsed) -> Parsed
     ensures { Gives skip_atomic_ordering tt text.now p result }
 {
-    let lens: [u8; 6] = [7, 7, 7, 7, 9, 9];
     let q = lexer::eat_ws(text, p);
     let q1 = opt_scope(text, q);
-    lexer_keywords::skip_one(
-        text,
-        q1,
-        &lens,
-        b"seq_cstacq_relacquirereleasemonotonicunordered",
-    )
+    lexer_keywords::skip_one(text, q1, &ORDERINGS)
 }
 
 // T, T V
@@ -96,12 +99,7 @@ fn store_operands(text: &[u8], words: &mut [u64], p: Parsed) -> Parsed
 }
 
 // The operands of a load, or of a store.
-fn access_operands(
-    text: &[u8],
-    words: &mut [u64],
-    p: Parsed,
-    store: bool,
-) -> Parsed
+fn access_operands(text: &[u8], words: &mut [u64], p: Parsed, store: bool) -> Parsed
     ensures { Reads (access_operands store) text.now p words.old result words.new }
 {
     if store {
@@ -121,13 +119,7 @@ struct Form {
 
 // A load or a store. The alignment stands before the operands and is known behind them: a slot is left for it, and where there is none the
 // operands are read again without the slot.
-fn parse_access(
-    text: &[u8],
-    words: &mut [u64],
-    p: Parsed,
-    dest: u64,
-    form: Form,
-) -> Parsed
+fn parse_access(text: &[u8], words: &mut [u64], p: Parsed, dest: u64, form: Form) -> Parsed
     ensures { Leads (access form.kind form.atomic form.n (access_operands form.store) dest) 3 [] (made same text.now p) text.now p p words.old result words.new }
 {
     let q = node_words::begin(words, p, dest);
@@ -137,15 +129,7 @@ fn parse_access(
         let q3 = skip_volatile(text, q2);
         let q4 = access_operands(text, words, q3, form.store);
         let q5 = skip_atomic_ordering(text, q4);
-        return inst_operands::end(
-            text,
-            words,
-            p,
-            q5,
-            form.atomic,
-            records::D_NONE,
-            form.n,
-        );
+        return inst_operands::end(text, words, p, q5, form.atomic, records::D_NONE, form.n);
     }
     let p1 = skip_volatile(text, q1);
     let q6 = node_words::push(words, p1, 0);
@@ -162,12 +146,7 @@ fn parse_access(
 }
 
 // `load T, T V`
-pub fn parse_load(
-    text: &[u8],
-    words: &mut [u64],
-    p: Parsed,
-    dest: u64,
-) -> Parsed
+pub fn parse_load(text: &[u8], words: &mut [u64], p: Parsed, dest: u64) -> Parsed
     ensures { Leads (parse_load dest) 3 [] (made same text.now p) text.now p p words.old result words.new }
 {
     let form = Form {
@@ -207,12 +186,7 @@ fn pointer_then_value(text: &[u8], words: &mut [u64], p: Parsed) -> Parsed
 }
 
 // `cmpxchg T V, T V, T V ..`
-pub fn parse_cmpxchg(
-    text: &[u8],
-    words: &mut [u64],
-    p: Parsed,
-    dest: u64,
-) -> Parsed
+pub fn parse_cmpxchg(text: &[u8], words: &mut [u64], p: Parsed, dest: u64) -> Parsed
     ensures { Leads (parse_cmpxchg dest) 3 [] (richly text.now (made same text.now p)) text.now p p words.old result words.new }
 {
     let mut q = node_words::begin(words, p, dest);
@@ -223,15 +197,7 @@ pub fn parse_cmpxchg(
     q = inst_operands::parse_operand(text, words, q);
     q = skip_atomic_ordering(text, q);
     q = skip_atomic_ordering(text, q);
-    inst_operands::end(
-        text,
-        words,
-        p,
-        q,
-        records::K_CMPXCHG,
-        records::D_NONE,
-        4,
-    )
+    inst_operands::end(text, words, p, q, records::K_CMPXCHG, records::D_NONE, 4)
 }
 
 // An operation of `atomicrmw`, as its rank in ast.rs order.
@@ -244,12 +210,13 @@ struct RmwOp {
 // How many operations there are.
 const RMW_OPS: usize = 7;
 
+static RMW_WORDS: [&[u8]; 7] = [b"xchg", b"add", b"sub", b"and", b"or", b"xor", b"nand"];
+
 // The rank of the operation that stands from a place to another.
 fn rmw_rank(text: &[u8], from: usize, to: usize) -> usize
     ensures { result ≡ rank (spelled (raw_word (part text.now from to))) rmw_ops }
 {
-    let lens: [u8; 7] = [4, 3, 3, 3, 2, 3, 4];
-    lexer_spelling::spelled_rank(text, from, to, &lens, b"xchgaddsubandorxornand")
+    lexer_spelling::spelled_rank(text, from, to, &RMW_WORDS)
 }
 
 // The operation's word, quoted or not; 9 behind any other.
@@ -268,12 +235,7 @@ fn rmw_op(text: &[u8], p: Parsed) -> RmwOp
 }
 
 // `atomicrmw OP T V, T V ..`
-pub fn parse_atomicrmw(
-    text: &[u8],
-    words: &mut [u64],
-    p: Parsed,
-    dest: u64,
-) -> Parsed
+pub fn parse_atomicrmw(text: &[u8], words: &mut [u64], p: Parsed, dest: u64) -> Parsed
     ensures { Leads (parse_atomicrmw dest) 3 [] (richly text.now (made same text.now p)) text.now p p words.old result words.new }
 {
     let mut q = node_words::begin(words, p, dest);
@@ -286,12 +248,7 @@ pub fn parse_atomicrmw(
 }
 
 // `extractvalue T V, N`: the number's slot is filled behind the operand.
-pub fn parse_extractvalue(
-    text: &[u8],
-    words: &mut [u64],
-    p: Parsed,
-    dest: u64,
-) -> Parsed
+pub fn parse_extractvalue(text: &[u8], words: &mut [u64], p: Parsed, dest: u64) -> Parsed
     ensures { Leads (parse_extractvalue dest) 3 [] (made same text.now p) text.now p p words.old result words.new }
 {
     let mut q = node_words::begin(words, p, dest);
@@ -319,15 +276,7 @@ pub fn parse_fence(text: &[u8], words: &mut [u64], p: Parsed) -> Parsed
 {
     let mut q = node_words::begin(words, p, 0);
     q = skip_atomic_ordering(text, q);
-    inst_operands::end(
-        text,
-        words,
-        p,
-        q,
-        records::K_FENCE,
-        records::D_NONE,
-        0,
-    )
+    inst_operands::end(text, words, p, q, records::K_FENCE, records::D_NONE, 0)
 }
 
 // What stands behind an alloca's type: `n` is 0 where there is no count, `has` is 0 where there is no alignment.
@@ -347,8 +296,7 @@ fn alloca_rest(text: &[u8], words: &mut [u64], p: Parsed) -> Rest
     let mut n: u8 = 0;
     let mut has: u8 = 0;
     let mut v: u64 = 0;
-    let mut left: usize = records::TURNS;
-    while 0 < left {
+    for _left in (0..records::TURNS).rev() {
         q = lexer::eat_ws(text, q);
         if lexer::looks(text, q, b',') {
             q = lexer::pass(text, q, 1);
@@ -360,17 +308,14 @@ fn alloca_rest(text: &[u8], words: &mut [u64], p: Parsed) -> Rest
                 q = k.p;
                 has = 1;
                 v = k.v;
-                left -= 1;
             } else {
                 if lexer::looks(text, q, b'!') {
                     q = lexer::pass(text, q, 1);
                     q = lexer_names::skip_metadata_ref(text, q);
-                    left -= 1;
                 } else {
                     q = inst_operands::resume(p, q);
                     q = values::parse_typed_val(text, words, q, records::DEPTH_LIMIT);
                     n = 1;
-                    left -= 1;
                 }
             }
         } else {
@@ -422,12 +367,7 @@ fn one_bit(d: u8) -> u8
 }
 
 // `alloca T, T V, align N`
-pub fn parse_alloca(
-    text: &[u8],
-    words: &mut [u64],
-    p: Parsed,
-    dest: u64,
-) -> Parsed
+pub fn parse_alloca(text: &[u8], words: &mut [u64], p: Parsed, dest: u64) -> Parsed
     ensures { Leads (parse_alloca dest) 3 [] (richly text.now (made same text.now p)) text.now p p words.old result words.new }
 {
     let q = node_words::begin(words, p, dest);
@@ -462,8 +402,7 @@ fn gep_inst_indices(text: &[u8], words: &mut [u64], p: Parsed) -> Listed
 {
     let mut q = p;
     let mut n: u16 = 2;
-    let mut left: usize = records::TURNS;
-    while 0 < left {
+    for _left in (0..records::TURNS).rev() {
         q = lexer::eat_ws(text, q);
         if lexer::looks(text, q, b',') {
             q = lexer::pass(text, q, 1);
@@ -471,12 +410,10 @@ fn gep_inst_indices(text: &[u8], words: &mut [u64], p: Parsed) -> Listed
             if lexer::looks(text, q, b'!') {
                 q = lexer::pass(text, q, 1);
                 q = lexer_names::skip_metadata_ref(text, q);
-                left -= 1;
             } else {
                 let x = values::pair_child(text, words, q, n, records::DEPTH_LIMIT);
                 q = x.p;
                 n = x.n;
-                left -= 1;
             }
         } else {
             return Listed { p: q, n, dots: 0 };
@@ -486,12 +423,7 @@ fn gep_inst_indices(text: &[u8], words: &mut [u64], p: Parsed) -> Listed
 }
 
 // `getelementptr T, T V, T V, ..`
-pub fn parse_gep_inst(
-    text: &[u8],
-    words: &mut [u64],
-    p: Parsed,
-    dest: u64,
-) -> Parsed
+pub fn parse_gep_inst(text: &[u8], words: &mut [u64], p: Parsed, dest: u64) -> Parsed
     ensures { Leads (parse_gep_inst dest) 2 [] (made same text.now p) text.now p p words.old result words.new }
 {
     let q = node_words::begin(words, p, dest);

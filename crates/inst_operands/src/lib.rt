@@ -87,15 +87,12 @@ pub fn parse_trailing(text: &[u8], p: Parsed) -> Trail
     let mut q = p;
     let mut has: u8 = 0;
     let mut v: u64 = 0;
-    let mut left: usize = records::TURNS;
-    while 0 < left {
+    for _left in (0..records::TURNS).rev() {
         let s = trail_step(text, q, has, v);
         q = s.p;
         has = s.has;
         v = s.v;
-        if s.more {
-            left -= 1;
-        } else {
+        if !s.more {
             return Trail { p: q, has, v };
         }
     }

@@ -78,9 +78,8 @@ fn switch_ints(text: &[u8], words: &mut [u64], p: Parsed) -> Cases
     ensures { Leads (switch_cases 65536 3 [] []) 0 [] (kept (λ labels ints. ret (cases result.n ints labels)) length text.now p) text.now p p words.old result.p words.new }
 {
     let mut q = p;
-    let mut left: usize = records::LIST_TURNS;
     let mut n: u16 = SWITCH_FRONT;
-    while 0 < left {
+    for _left in (0..records::LIST_TURNS).rev() {
         q = lexer::eat_ws(text, q);
         if lexer::looks(text, q, b']') {
             q = lexer::pass(text, q, 1);
@@ -96,7 +95,6 @@ fn switch_ints(text: &[u8], words: &mut [u64], p: Parsed) -> Cases
         }
         q = node_words::push(words, q, c.hi);
         q = node_words::push(words, q, c.lo);
-        left -= 1;
         n = types::one_more(n);
     }
     q = lexer::refuse(q, records::Q_CHILDREN);
@@ -108,9 +106,8 @@ fn switch_labels(text: &[u8], words: &mut [u64], p: Parsed) -> Cases
     ensures { Leads (switch_cases 65536 3 [] []) 0 [] (kept (λ ints labels. ret (cases result.n ints labels)) nothing text.now p) text.now p p words.old result.p words.new }
 {
     let mut q = p;
-    let mut left: usize = records::LIST_TURNS;
     let mut n: u16 = SWITCH_FRONT;
-    while 0 < left {
+    for _left in (0..records::LIST_TURNS).rev() {
         q = lexer::eat_ws(text, q);
         if lexer::looks(text, q, b']') {
             q = lexer::pass(text, q, 1);
@@ -125,7 +122,6 @@ fn switch_labels(text: &[u8], words: &mut [u64], p: Parsed) -> Cases
             return Cases { p: q, n };
         }
         q = inst_operands::label_node(words, q, t.v);
-        left -= 1;
         n = types::one_more(n);
     }
     q = lexer::refuse(q, records::Q_CHILDREN);

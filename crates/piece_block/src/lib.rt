@@ -38,8 +38,7 @@ fn parse_body(text: &[u8], words: &mut [u64], p: Parsed, counter: u64) -> Body
     let mut label: u64 = 0;
     let mut n: usize = 0;
     let mut over: usize = 0;
-    let mut left: usize = records::TURNS;
-    while 0 < left {
+    for _left in (0..records::TURNS).rev() {
         let r = lexer::eat_ws(text, q);
         if lexer::looks(text, r, b'}') {
             let r1 = lexer::pass(text, r, 1);
@@ -60,7 +59,6 @@ fn parse_body(text: &[u8], words: &mut [u64], p: Parsed, counter: u64) -> Body
             q = r3;
             c = s.c;
             label = s.label;
-            left -= 1;
         } else {
             if kind == statements::INSTRUCTION {
                 let at = lexer::place(r3);
@@ -68,7 +66,6 @@ fn parse_body(text: &[u8], words: &mut [u64], p: Parsed, counter: u64) -> Body
                 c = s.c;
                 over = piece_close::over_at(n, over, at);
                 n += 1;
-                left -= 1;
             } else {
                 return Body {
                     p: r3,

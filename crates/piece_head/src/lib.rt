@@ -61,10 +61,9 @@ fn parse_param_list(text: &[u8], words: &mut [u64], p: Parsed) -> Params
             c: 0,
         };
     }
-    let mut left: usize = records::LIST_TURNS;
     let mut n: u16 = 1;
     let mut c: u64 = 0;
-    while 0 < left {
+    for _left in (0..records::LIST_TURNS).rev() {
         let r = lexer::eat_ws(text, q);
         if lexer::looks(text, r, b'.') {
             let r1 = lexer_names::three_dots(text, r, records::Q_TYPE);
@@ -83,9 +82,7 @@ fn parse_param_list(text: &[u8], words: &mut [u64], p: Parsed) -> Params
         n = types::one_more(n);
         c = x.c;
         q = e.p;
-        if e.more {
-            left -= 1;
-        } else {
+        if !e.more {
             return Params {
                 p: q,
                 n,

@@ -55,17 +55,14 @@ fn parse_struct_fields(
             dots: 0,
         };
     }
-    let mut left: usize = records::LIST_TURNS;
     let mut n: u16 = 0;
-    while 0 < left {
+    for _left in (0..records::LIST_TURNS).rev() {
         let r = parse_type(text, words, q, depth);
         let r1 = lexer::count_child(r, n);
         let e = lexer::comma_or(text, r1, b'}');
         n = one_more(n);
         q = e.p;
-        if e.more {
-            left -= 1;
-        } else {
+        if !e.more {
             return Listed { p: q, n, dots: 0 };
         }
     }
@@ -93,9 +90,8 @@ pub fn parse_type_list(
         };
     }
     let bad = no_type(depth);
-    let mut left: usize = records::LIST_TURNS;
     let mut n: u16 = 1;
-    while 0 < left {
+    for _left in (0..records::LIST_TURNS).rev() {
         let r = lexer::eat_ws(text, q);
         if lexer::looks(text, r, b'.') {
             let r1 = lexer_names::three_dots(text, r, bad);
@@ -112,9 +108,7 @@ pub fn parse_type_list(
         let e = lexer::comma_or(text, r5, b')');
         n = one_more(n);
         q = e.p;
-        if e.more {
-            left -= 1;
-        } else {
+        if !e.more {
             return Listed { p: q, n, dots: 0 };
         }
     }
@@ -227,8 +221,7 @@ fn type_suffixes(
     ensures { (t : List ℕ) → Leads (suffixes 16777217 (no_type depth) (parse_type depth) t) 0 t (typed (parse_type_list (no_type depth) (parse_type depth)) text.now p0) text.now p0 p words.old result words.new }
 {
     let mut q = p;
-    let mut left: usize = records::TURNS;
-    while 0 < left {
+    for _left in (0..records::TURNS).rev() {
         let r = lexer::eat_ws(text, q);
         if lexer::looks(text, r, b'(') {
             let s = lexer::pass(text, r, 1);
@@ -238,7 +231,6 @@ fn type_suffixes(
             if lexer::looks(text, s2, b'*') {
                 let t = lexer::pass(text, s2, 1);
                 q = node_words::replace(words, p0, t, records::PTR_NODE);
-                left -= 1;
             } else {
                 return node_words::back_to(r, s2);
             }
@@ -247,7 +239,6 @@ fn type_suffixes(
             if lexer::looks(text, s, b'*') {
                 let t = lexer::pass(text, s, 1);
                 q = node_words::replace(words, p0, t, records::PTR_NODE);
-                left -= 1;
             } else {
                 return s;
             }

@@ -22,17 +22,20 @@ pub struct Oper {
     pub hit: bool,
 }
 
+static CONV_OPS: [&[u8]; 6] = [
+    b"trunc",
+    b"zext",
+    b"sext",
+    b"ptrtoint",
+    b"inttoptr",
+    b"bitcast",
+];
+
 // A conversion's word (`match_conv_op`).
 pub fn match_conv_op(text: &[u8], p: Parsed) -> Oper
     ensures { Op conv_ops text.now p result.p result.r result.hit }
 {
-    let lens: [u8; 6] = [5, 4, 4, 8, 8, 7];
-    let k = lexer_keywords::match_rank(
-        text,
-        p,
-        &lens,
-        b"trunczextsextptrtointinttoptrbitcast",
-    );
+    let k = lexer_keywords::match_rank(text, p, &CONV_OPS);
     let q = k.p;
     let r = k.r;
     if r < 6 {
@@ -49,17 +52,16 @@ pub fn match_conv_op(text: &[u8], p: Parsed) -> Oper
     }
 }
 
+static BIN_OPS: [&[u8]; 13] = [
+    b"add", b"sub", b"mul", b"udiv", b"sdiv", b"urem", b"srem", b"and", b"or", b"xor", b"shl",
+    b"lshr", b"ashr",
+];
+
 // A binary operation's word (`match_bin_op`).
 pub fn match_bin_op(text: &[u8], p: Parsed) -> Oper
     ensures { Op bin_ops text.now p result.p result.r result.hit }
 {
-    let lens: [u8; 13] = [3, 3, 3, 4, 4, 4, 4, 3, 2, 3, 3, 4, 4];
-    let k = lexer_keywords::match_rank(
-        text,
-        p,
-        &lens,
-        b"addsubmuludivsdivuremsremandorxorshllshrashr",
-    );
+    let k = lexer_keywords::match_rank(text, p, &BIN_OPS);
     let q = k.p;
     let r = k.r;
     if r < 13 {
@@ -135,14 +137,11 @@ pub fn parse_gep_flags(text: &[u8], p: Parsed) -> Flags
 {
     let mut q = p;
     let mut v: u8 = records::D_NONE;
-    let mut left: usize = records::TURNS;
-    while 0 < left {
+    for _left in (0..records::TURNS).rev() {
         let f = gep_flag(text, q, v);
         q = f.p;
         v = f.v;
-        if f.more {
-            left -= 1;
-        } else {
+        if !f.more {
             return Flags {
                 p: q,
                 v,

@@ -29,17 +29,14 @@ fn pair_list(
             dots: 0,
         };
     }
-    let mut left: usize = records::LIST_TURNS;
     let mut n: u16 = 0;
-    while 0 < left {
+    for _left in (0..records::LIST_TURNS).rev() {
         let x = pair_child(text, words, q, n, depth);
         let q1 = x.p;
         let e = lexer::comma_or(text, q1, end);
         n = x.n;
         q = e.p;
-        if e.more {
-            left -= 1;
-        } else {
+        if !e.more {
             return Listed { p: q, n, dots: 0 };
         }
     }
@@ -98,9 +95,8 @@ fn gep_indices(
     ensures { Leads (gep_indices 65536 (parse_type depth) (parse_value depth) 3 []) 0 [] (made (listed result.n 0) text.now p) text.now p p words.old result.p words.new }
 {
     let mut q = p;
-    let mut left: usize = records::LIST_TURNS;
     let mut n: u16 = 3;
-    while 0 < left {
+    for _left in (0..records::LIST_TURNS).rev() {
         let e = lexer::comma_or(text, q, b')');
         let q1 = e.p;
         if e.more {
@@ -108,7 +104,6 @@ fn gep_indices(
             let x = pair_child(text, words, q2, n, depth);
             q = x.p;
             n = x.n;
-            left -= 1;
         } else {
             return Listed { p: q1, n, dots: 0 };
         }
