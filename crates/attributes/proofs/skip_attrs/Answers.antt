@@ -9,14 +9,14 @@ pub loop-left-preserved : goal.loop-left-preserved
 loop-left-preserved c =
     g_on c.loop-left.invariant
     (g_more skip_attrs_in c.loop-left._left c.loop-left-test.true
-    (c.attr_step-s.ensures.again c.if-s.true _))
+    (c.attr_step-s.ensures.again c.if-not-s.false _))
 
-pub returns-else-s : goal.returns-else-s
+pub returns-then-not-s : goal.returns-then-not-s
 unfolding skip_attrs
-returns-else-s c =
+returns-then-not-s c =
     g_on c.loop-left.invariant
     (g_more skip_attrs_in c.loop-left._left c.loop-left-test.true
-    (c.attr_step-s.ensures.over c.if-s.false _))
+    (c.attr_step-s.ensures.over c.if-not-s.true _))
 
 pub returns : goal.returns
 unfolding skip_attrs skip_attrs_in

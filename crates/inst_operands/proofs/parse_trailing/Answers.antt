@@ -11,15 +11,15 @@ pub loop-left-preserved : goal.loop-left-preserved
 loop-left-preserved c =
     g_on c.loop-left.invariant
     (g_more (λ u. trailing u (align_of c.loop-left.has c.loop-left.v)) c.loop-left._left c.loop-left-test.true
-    (c.trail_step-s.ensures.again c.if-s.true _))
+    (c.trail_step-s.ensures.again c.if-not-s.false _))
 
-pub returns-else-s : goal.returns-else-s
+pub returns-then-not-s : goal.returns-then-not-s
 unfolding parse_trailing
-returns-else-s c =
+returns-then-not-s c =
     g_then _
     (g_on c.loop-left.invariant
     (g_more (λ u. trailing u (align_of c.loop-left.has c.loop-left.v)) c.loop-left._left c.loop-left-test.true
-    (c.trail_step-s.ensures.over c.if-s.false _)))
+    (c.trail_step-s.ensures.over c.if-not-s.true _)))
     g_done
 
 pub returns : goal.returns

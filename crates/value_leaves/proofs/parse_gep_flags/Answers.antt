@@ -9,13 +9,13 @@ pub loop-left-preserved : goal.loop-left-preserved
 loop-left-preserved c =
     g_on c.loop-left.invariant
     (g_more (λ u. parse_gep_flags u c.loop-left.v) c.loop-left._left c.loop-left-test.true
-    (c.gep_flag-f.ensures.again c.if-f.true _))
+    (c.gep_flag-f.ensures.again c.if-not-f.false _))
 
-pub returns-else-f : goal.returns-else-f
-returns-else-f c =
+pub returns-then-not-f : goal.returns-then-not-f
+returns-then-not-f c =
     g_on c.loop-left.invariant
     (g_more (λ u. parse_gep_flags u c.loop-left.v) c.loop-left._left c.loop-left-test.true
-    (c.gep_flag-f.ensures.over c.if-f.false _))
+    (c.gep_flag-f.ensures.over c.if-not-f.true _))
 
 pub returns : goal.returns
 unfolding parse_gep_flags

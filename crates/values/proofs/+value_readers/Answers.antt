@@ -50,14 +50,14 @@ gep_indices-loop-left-init bound c =
 pub gep_indices-loop-left-preserved : goal.gep_indices-loop-left-preserved
 gep_indices-loop-left-preserved bound c = (
   go_on c.loop-left.invariant.0
-      (λ ws. indices_more _ c.loop-left._left c.loop-left.n ws c.loop-left-test.true c.comma_or-e.ensures _ c.if-e.true c.skip_keyword-q2.ensures c.pair_child-x.ensures),
+      (λ ws. indices_more _ c.loop-left._left c.loop-left.n ws c.loop-left-test.true c.comma_or-e.ensures _ c.if-not-e.false c.skip_keyword-q2.ensures c.pair_child-x.ensures),
   c.pair_child-x.auto.words ∙ c.loop-left.invariant.1,
 )
 
-pub gep_indices-returns-else-e : goal.gep_indices-returns-else-e
-gep_indices-returns-else-e bound c =
+pub gep_indices-returns-then-not-e : goal.gep_indices-returns-then-not-e
+gep_indices-returns-then-not-e bound c =
     go_on c.loop-left.invariant.0
-    (λ ws. indices_end _ c.loop-left._left c.loop-left.n ws c.loop-left-test.true c.comma_or-e.ensures c.if-e.false)
+    (λ ws. indices_end _ c.loop-left._left c.loop-left.n ws c.loop-left-test.true c.comma_or-e.ensures c.if-not-e.true)
 
 pub gep_indices-returns : goal.gep_indices-returns
 gep_indices-returns bound c =
@@ -103,18 +103,18 @@ pub pair_list-loop-left-preserved : goal.pair_list-loop-left-preserved
 unfolding pair_list
 pair_list-loop-left-preserved bound c = (
   go_on c.loop-left.invariant.0
-      (λ ws. pairs_more _ c.loop-left._left _ c.loop-left.n _ c.loop-left-test.true c.pair_child-x.ensures ws c.comma_or-e.ensures c.if-e.true),
+      (λ ws. pairs_more _ c.loop-left._left _ c.loop-left.n _ c.loop-left-test.true c.pair_child-x.ensures ws c.comma_or-e.ensures c.if-not-e.false),
   c.pair_child-x.auto.words ∙ c.loop-left.invariant.1,
 )
 
-pub pair_list-returns-else-e : goal.pair_list-returns-else-e
+pub pair_list-returns-then-not-e : goal.pair_list-returns-then-not-e
 unfolding pair_list
-pair_list-returns-else-e bound c =
+pair_list-returns-then-not-e bound c =
     val _ c.eat_ws-q.ensures
     (byte_no _ _ c.looks.ensures c.if-looks.false
     (call 0 (omega arith)
     (go_on c.loop-left.invariant.0
-    (λ ws. pairs_end _ c.loop-left._left _ c.loop-left.n _ c.loop-left-test.true c.pair_child-x.ensures ws c.comma_or-e.ensures c.if-e.false))))
+    (λ ws. pairs_end _ c.loop-left._left _ c.loop-left.n _ c.loop-left-test.true c.pair_child-x.ensures ws c.comma_or-e.ensures c.if-not-e.true))))
 
 pub pair_list-returns : goal.pair_list-returns
 unfolding pair_list
