@@ -11,7 +11,7 @@ loop-left-init c = g_stay
 pub loop-left-preserved : goal.loop-left-preserved
 loop-left-preserved c =
     g_on c.loop-left.invariant
-    (g_more (λ u. trailing u (align_of c.loop-left.has c.loop-left.v)) c.loop-left._left c.loop-left-test.true
+    (g_more (λ u. trailing u (align_of c.loop-left.align)) c.loop-left._left c.loop-left-test.true
     (c.trail_step-s.ensures.again (not-false _ c.if-not-s.false) _))
 
 pub returns-then-not-s : goal.returns-then-not-s
@@ -19,7 +19,7 @@ unfolding parse_trailing
 returns-then-not-s c =
     g_then _
     (g_on c.loop-left.invariant
-    (g_more (λ u. trailing u (align_of c.loop-left.has c.loop-left.v)) c.loop-left._left c.loop-left-test.true
+    (g_more (λ u. trailing u (align_of c.loop-left.align)) c.loop-left._left c.loop-left-test.true
     (c.trail_step-s.ensures.over (not-true _ c.if-not-s.true) _)))
     g_done
 
@@ -29,5 +29,5 @@ returns c =
     g_then _
     (g_on c.loop-left.invariant
     (g_no_more (λ u. trailing u
-    (align_of c.loop-left.has c.loop-left.v)) c.loop-left._left c.loop-left-test.false g_done))
+    (align_of c.loop-left.align)) c.loop-left._left c.loop-left-test.false g_done))
     g_done
