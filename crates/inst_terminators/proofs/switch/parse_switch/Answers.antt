@@ -34,4 +34,4 @@ returns c =
     (resume_out c.parse_typed_val-z1.result c.parse_trailing-t.result.p c.resume-q5.ensures))
     (c.label_node-q6.ensures c.args.text.now).hands) (shows_labels _ _ ints labels) c.resume-z2.ensures c.switch_labels-l.ensures c.resume-q7.ensures
     (enrich
-    (switch_close x ints labels _ _ _ c.minus-count.ensures c.patch-q8.ensures c.close.ensures))))))))))))
+    (switch_close x ints labels _ _ _ c.saturating_sub-count.ensures c.patch-q8.ensures c.close.ensures))))))))))))
