@@ -5,8 +5,7 @@ use Rattle.program.specs.Bytes.{bytes, byte}
 use Rattle.program.specs.Prog.{Prog, ret, scan}
 use Rattle.grammar.specs.Attributes.{group_step, skip_attrs_in}
 use Rattle.lexer.specs.Reads.{Gives, Comes}
-use Rattle.lexer.specs.declared.Parsed.{Parsed}
-use Rattle.lexer.specs.declared.Parsed.TheVariants.{Ok, Refused}
+use Rattle.lexer.specs.Parsed.{Parsed, Ok, Refused}
 
 -- the digits behind `#`
 unfoldable pub group_digits : Prog (Unit {0})

@@ -3,7 +3,6 @@
 
 ghost use Rattle.std.specs.Prelude.{◌≡◌, ◌<◌};
 ghost use Rattle.grammar.specs.Numbers.{digit_step, parse_int};
-ghost use Rattle.lexer.specs.Table.{Classes};
 ghost use Rattle.lexer.specs.Step.{step_code};
 ghost use Rattle.lexer.specs.Reads.{Gives};
 ghost use Rattle.number_counts.specs.Number.{added, NumAt};
@@ -20,11 +19,10 @@ pub struct Digits {
 }
 
 // Digits and `_`: 0 stop, else one more than the state behind b, which is 0 before the first digit.
-fn digit_step(classes: &[u8; 256], q: u8, b: u8) -> u8
-    requires { Classes classes.now }
+fn digit_step(q: u8, b: u8) -> u8
     ensures { result ≡ step_code (digit_step q b) }
 {
-    if class(classes, b) < DIGIT {
+    if class(b) < DIGIT {
         return 2;
     }
     if b == b'_' {
@@ -37,20 +35,18 @@ fn digit_step(classes: &[u8; 256], q: u8, b: u8) -> u8
 }
 
 // One digit or `_` more.
-fn add_digit(classes: &[u8; 256], n: Val, b: u8) -> Val
-    requires { Classes classes.now }
+fn add_digit(n: Val, b: u8) -> Val
     ensures { result ≡ added n b }
 {
     if b == b'_' {
         return n;
     }
-    let d = class(classes, b);
+    let d = class(b);
     shift(n, d)
 }
 
 // The digits at a place.
-fn digits_at(classes: &[u8; 256], text: &[u8], at: usize) -> Digits
-    requires { Classes classes.now }
+fn digits_at(text: &[u8], at: usize) -> Digits
     ensures { NumAt text.now at result }
 {
     let mut i = at;
@@ -58,26 +54,25 @@ fn digits_at(classes: &[u8; 256], text: &[u8], at: usize) -> Digits
     let mut val = Val::Exact(0);
     while i < text.len() {
         let b = text[i];
-        let s = digit_step(classes, q, b);
+        let s = digit_step(q, b);
         if s == 0 {
             return Digits { at: i, val };
         }
         q = s - 1;
-        val = add_digit(classes, val, b);
+        val = add_digit(val, b);
         i += 1;
     }
     Digits { at: i, val }
 }
 
 // A number from lo to hi; one outside is refused at its first digit.
-pub fn parse_int(classes: &[u8; 256], text: &[u8], p: Parsed, lo: u64, hi: u64) -> Num
-    requires { Classes classes.now }
+pub fn parse_int(text: &[u8], p: Parsed, lo: u64, hi: u64) -> Num
     ensures { Gives (parse_int lo hi) result.v text.now p result.p }
 {
     match p {
         Parsed::Ok(c) => {
             let at = c.at;
-            let r = digits_at(classes, text, at);
+            let r = digits_at(text, at);
             let i = r.at;
             if i == at {
                 return Num {

@@ -15,8 +15,7 @@ use Rattle.grammar.specs.Numbers.{hex_step, hex_of, widen, parse_hex_float, pars
 use Rattle.lexer.specs.Step.{taken, refused}
 use Rattle.lexer.specs.Reads.{Gives}
 use Rattle.lexer.specs.declared.Cursor.{Cursor}
-use Rattle.lexer.specs.declared.Parsed.{Parsed}
-use Rattle.lexer.specs.declared.Parsed.TheVariants.{Ok, Refused}
+use Rattle.lexer.specs.Parsed.{Parsed, Ok, Refused}
 use Rattle.lexer.proofs.Laws.{given as from-run, kept, g_then, g_done, g_fail, scan_run}
 use Rattle.number_integers.specs.Hex.{hex_held, hex_folded, hex_pushed, all_hex}
 use Rattle.number_integers.specs.Literals.{given, hex_literal, f0x_literal}

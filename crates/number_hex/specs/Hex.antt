@@ -5,7 +5,7 @@ use Rattle.program.specs.Prog.{Prog, ret, scan}
 use Rattle.grammar.specs.Lexer.{refuse}
 use Rattle.grammar.specs.Numbers.{hex_step}
 use Rattle.lexer.specs.Reads.{Gives}
-use Rattle.lexer.specs.declared.Parsed.{Parsed}
+use Rattle.lexer.specs.Parsed.{Parsed}
 use Rattle.number_integers.specs.Hex.{hex_held, hex_folded, all_hex}
 use Rattle.number_integers.specs.declared.hex.Hex.{Hex}
 use Rattle.number_integers.specs.declared.literal.Literal.TheVariants.{Int, Float, Refused as Question}

@@ -3,7 +3,6 @@
 
 ghost use Rattle.std.specs.Prelude.{List, ℕ};
 ghost use Rattle.grammar.specs.Numbers.{parse_hex_float, parse_f0x};
-ghost use Rattle.lexer.specs.Table.{Classes};
 ghost use Rattle.lexer.specs.Reads.{Gives};
 ghost use Rattle.number_hex.specs.Hex.{HexAt, bits_in};
 
@@ -20,8 +19,7 @@ pub struct HexFolded {
 }
 
 // The hex digits at the cursor.
-fn hex_digits(classes: &[u8; 256], text: &[u8], p: Parsed) -> HexFolded
-    requires { Classes classes.now }
+fn hex_digits(text: &[u8], p: Parsed) -> HexFolded
     ensures { HexAt text.now p result.p result.h }
 {
     let mut h = no_hex();
@@ -29,7 +27,7 @@ fn hex_digits(classes: &[u8; 256], text: &[u8], p: Parsed) -> HexFolded
         Parsed::Ok(c) => {
             let mut i = c.at;
             while i < text.len() {
-                let d = class(classes, text[i]);
+                let d = class(text[i]);
                 if HEX <= d {
                     return HexFolded {
                         p: Parsed::Ok(Cursor { at: i, w: c.w }),
@@ -69,11 +67,10 @@ fn bits_of(lit: Literal, p: Parsed) -> Num
 }
 
 // The bits of a float, behind `0x`.
-pub fn parse_hex_float(classes: &[u8; 256], text: &[u8], p: Parsed) -> Num
-    requires { Classes classes.now }
+pub fn parse_hex_float(text: &[u8], p: Parsed) -> Num
     ensures { Gives parse_hex_float result.v text.now p result.p }
 {
-    let x = hex_digits(classes, text, p);
+    let x = hex_digits(text, p);
     let q = x.p;
     let h = x.h;
     let lit = hex_literal(h);
@@ -81,11 +78,10 @@ pub fn parse_hex_float(classes: &[u8; 256], text: &[u8], p: Parsed) -> Num
 }
 
 // The bits of a float or a widened one, behind `f0x`.
-pub fn parse_f0x(classes: &[u8; 256], text: &[u8], p: Parsed) -> Num
-    requires { Classes classes.now }
+pub fn parse_f0x(text: &[u8], p: Parsed) -> Num
     ensures { Gives parse_f0x result.v text.now p result.p }
 {
-    let x = hex_digits(classes, text, p);
+    let x = hex_digits(text, p);
     let q = x.p;
     let h = x.h;
     let lit = f0x_literal(h);

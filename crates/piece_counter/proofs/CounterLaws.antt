@@ -17,7 +17,7 @@ use Rattle.grammar.specs.Numbers.{value_of}
 use Rattle.grammar.specs.Counter.{takes, is_number, named}
 use Rattle.lexer.specs.Step.{refused_at}
 use Rattle.lexer.specs.Reads.{Aim, Finds, Gives}
-use Rattle.lexer.specs.declared.Parsed.{Parsed}
+use Rattle.lexer.specs.Parsed.{Parsed}
 use Rattle.lexer.proofs.Laws.{true_false, g_done, g_turn}
 use Rattle.lexer_names.specs.Names.{is_quoted, inner, raw_word}
 use Rattle.piece_counter.specs.Numbers.{Near, NumberIs}

@@ -5,7 +5,6 @@ ghost use Rattle.std.specs.Prelude.{List, ◌≡◌, ℕ, ◌+◌, ◌*◌, ltb}
 ghost use Rattle.program.specs.Choice.{pick};
 ghost use Rattle.records.specs.Limits.{counter_limit};
 ghost use Rattle.grammar.specs.Counter.{counted, takes, takes_next, named, counted_name};
-ghost use Rattle.lexer.specs.Table.{Classes};
 ghost use Rattle.lexer.specs.Reads.{Gives};
 ghost use Rattle.lexer_names.specs.Names.{part, raw_word};
 ghost use Rattle.piece_counter.specs.Numbers.{NumberIs};
@@ -68,14 +67,13 @@ fn add_digit(v: u64, d: u8) -> u64
 }
 
 // The number that bytes write, if all are digits.
-fn number_in(classes: &[u8; 256], raw: &[u8]) -> Written
-    requires { Classes classes.now }
+fn number_in(raw: &[u8]) -> Written
     ensures { NumberIs raw.now result }
 {
     let mut i = 0;
     let mut v: u64 = 0;
     while i < raw.len() {
-        let d = class(classes, raw[i]);
+        let d = class(raw[i]);
         if DIGIT <= d {
             return Written { all: false, v };
         }
@@ -86,11 +84,10 @@ fn number_in(classes: &[u8; 256], raw: &[u8]) -> Written
 }
 
 // The counter behind a name, which is lent as it stands.
-fn named_raw(classes: &[u8; 256], raw: &[u8], p: Parsed, at: usize, c: u64) -> Counter
-    requires { Classes classes.now }
+fn named_raw(raw: &[u8], p: Parsed, at: usize, c: u64) -> Counter
     ensures { (text : List ℕ) → Gives (named at c (raw_word raw.now)) result.c text p result.p }
 {
-    let n = number_in(classes, raw);
+    let n = number_in(raw);
     if n.all {
         return take(p, at, c, n.v);
     }
@@ -99,7 +96,6 @@ fn named_raw(classes: &[u8; 256], raw: &[u8], p: Parsed, at: usize, c: u64) -> C
 
 // The counter behind the name that stands from a place to another; 26 is refused at `at`.
 pub fn name_counter(
-    classes: &[u8; 256],
     text: &[u8],
     p: Parsed,
     at: usize,
@@ -107,27 +103,25 @@ pub fn name_counter(
     from: usize,
     to: usize,
 ) -> Counter
-    requires { Classes classes.now }
     ensures { Gives (named at c (raw_word (part text.now from to))) result.c text.now p result.p }
 {
     let end = lexer_keywords::least(to, text.len());
     if from <= end {
-        return named_raw(classes, &text[from..end], p, at, c);
+        return named_raw(&text[from..end], p, at, c);
     }
-    named_raw(classes, &text[0..0], p, at, c)
+    named_raw(&text[0..0], p, at, c)
 }
 
 // A name behind its sigil, as its word, and the counter behind it.
-pub fn counted_name(classes: &[u8; 256], text: &[u8], p: Parsed, c: u64) -> CountedName
-    requires { Classes classes.now }
+pub fn counted_name(text: &[u8], p: Parsed, c: u64) -> CountedName
     ensures { Gives (counted_name c) (counted result.c result.v) text.now p result.p }
 {
     let at = lexer::place(p);
-    let x = lexer_names::read_word(classes, text, p);
+    let x = lexer_names::read_word(text, p);
     let n = lexer_names::name_of(x, at);
     let q = n.p;
     let j = lexer::place(q);
-    let d = name_counter(classes, text, q, j, c, x.start, x.end);
+    let d = name_counter(text, q, j, c, x.start, x.end);
     let q1 = d.p;
     CountedName {
         p: q1,

@@ -8,18 +8,18 @@ loop-left-init c = g_stay
 pub loop-left-preserved : goal.loop-left-preserved
 loop-left-preserved c =
     g_on c.loop-left.invariant
-    (g_more skip_attrs_in c.loop-left.left c.loop-left-test.true
+    (g_more skip_attrs_in c.loop-left._left c.loop-left-test.true
     (c.attr_step-s.ensures.again c.if-s.true _))
 
 pub returns-else-s : goal.returns-else-s
 unfolding skip_attrs
 returns-else-s c =
     g_on c.loop-left.invariant
-    (g_more skip_attrs_in c.loop-left.left c.loop-left-test.true
+    (g_more skip_attrs_in c.loop-left._left c.loop-left-test.true
     (c.attr_step-s.ensures.over c.if-s.false _))
 
 pub returns : goal.returns
 unfolding skip_attrs skip_attrs_in
 returns c =
     g_on c.loop-left.invariant
-    (g_no_more skip_attrs_in c.loop-left.left c.loop-left-test.false g_done)
+    (g_no_more skip_attrs_in c.loop-left._left c.loop-left-test.false g_done)

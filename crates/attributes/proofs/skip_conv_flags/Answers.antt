@@ -1,8 +1,8 @@
--- The table's words, cut by their lengths, are those of the definition.
+-- The table's words, words_of by their lengths, are those of the definition.
 use Rattle.grammar.specs.Attributes.{conv_flags}
-use Rattle.lexer.specs.Table.{cut}
+use Rattle.lexer.specs.Table.{words_of}
 use Rattle.attributes.proofs.skip_conv_flags.Goals as goal
 
 pub returns : goal.returns
-unfolding conv_flags cut
+unfolding conv_flags words_of
 returns c = c.skip_all.ensures

@@ -10,7 +10,7 @@ loop-left-init c = g_stay
 pub loop-left-preserved : goal.loop-left-preserved
 loop-left-preserved c =
     g_on c.loop-left.invariant
-    (g_more (λ u. trailing u (align_of c.loop-left.has c.loop-left.v)) c.loop-left.left c.loop-left-test.true
+    (g_more (λ u. trailing u (align_of c.loop-left.has c.loop-left.v)) c.loop-left._left c.loop-left-test.true
     (c.trail_step-s.ensures.again c.if-s.true _))
 
 pub returns-else-s : goal.returns-else-s
@@ -18,7 +18,7 @@ unfolding parse_trailing
 returns-else-s c =
     g_then _
     (g_on c.loop-left.invariant
-    (g_more (λ u. trailing u (align_of c.loop-left.has c.loop-left.v)) c.loop-left.left c.loop-left-test.true
+    (g_more (λ u. trailing u (align_of c.loop-left.has c.loop-left.v)) c.loop-left._left c.loop-left-test.true
     (c.trail_step-s.ensures.over c.if-s.false _)))
     g_done
 
@@ -28,5 +28,5 @@ returns c =
     g_then _
     (g_on c.loop-left.invariant
     (g_no_more (λ u. trailing u
-    (align_of c.loop-left.has c.loop-left.v)) c.loop-left.left c.loop-left-test.false g_done))
+    (align_of c.loop-left.has c.loop-left.v)) c.loop-left._left c.loop-left-test.false g_done))
     g_done

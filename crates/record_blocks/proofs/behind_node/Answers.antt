@@ -1,4 +1,4 @@
--- What reaches past the words is cut off.
+-- What reaches past the words is words_of off.
 use Rattle.record_blocks.proofs.Cuts.{behind_none, behind_there}
 use Rattle.record_blocks.proofs.behind_node.Goals as goal
 

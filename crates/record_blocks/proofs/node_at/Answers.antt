@@ -1,4 +1,4 @@
--- What reaches past the words is cut off.
+-- What reaches past the words is words_of off.
 use Rattle.record_blocks.proofs.Cuts.{node_none, node_there}
 use Rattle.record_blocks.proofs.node_at.Goals as goal
 

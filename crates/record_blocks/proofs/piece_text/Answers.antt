@@ -1,4 +1,4 @@
--- What reaches past the text is cut off.
+-- What reaches past the text is words_of off.
 use Rattle.record_blocks.proofs.Cuts.{piece_there}
 use Rattle.record_blocks.proofs.piece_text.Goals as goal
 

@@ -8,17 +8,17 @@ loop-left-init c = g_stay
 pub loop-left-preserved : goal.loop-left-preserved
 loop-left-preserved c =
     g_on c.loop-left.invariant
-    (g_more (λ u. parse_gep_flags u c.loop-left.v) c.loop-left.left c.loop-left-test.true
+    (g_more (λ u. parse_gep_flags u c.loop-left.v) c.loop-left._left c.loop-left-test.true
     (c.gep_flag-f.ensures.again c.if-f.true _))
 
 pub returns-else-f : goal.returns-else-f
 returns-else-f c =
     g_on c.loop-left.invariant
-    (g_more (λ u. parse_gep_flags u c.loop-left.v) c.loop-left.left c.loop-left-test.true
+    (g_more (λ u. parse_gep_flags u c.loop-left.v) c.loop-left._left c.loop-left-test.true
     (c.gep_flag-f.ensures.over c.if-f.false _))
 
 pub returns : goal.returns
 unfolding parse_gep_flags
 returns c =
     g_on c.loop-left.invariant
-    (g_no_more (λ u. parse_gep_flags u c.loop-left.v) c.loop-left.left c.loop-left-test.false g_done)
+    (g_no_more (λ u. parse_gep_flags u c.loop-left.v) c.loop-left._left c.loop-left-test.false g_done)

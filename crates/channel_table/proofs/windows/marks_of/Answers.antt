@@ -1,4 +1,4 @@
--- The tests are those of the definition, in its order; what is past the window is cut off.
+-- The tests are those of the definition, in its order; what is past the window is words_of off.
 use Rattle.channel_table.proofs.Bits.{last_over, last_inside}
 use Rattle.channel_table.specs.Windows.{marks_of}
 use borrow.Author.Tests.{le-leb, lt-leb, lt-ltb, le-ltb}

@@ -1,4 +1,4 @@
--- The part lies inside the piece, so that it can be cut out of it.
+-- The part lies inside the piece, so that it can be words_of out of it.
 use native.Mathlib.Omega.{arith}
 use Rattle.record_steps.proofs.NameLaws.{inside_piece, text_there, no_text}
 use Rattle.record_steps.proofs.names.text_in.Goals as goal
