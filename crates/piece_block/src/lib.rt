@@ -17,6 +17,7 @@ ghost use Rattle.piece_block.specs.Part.{BlockIn, BlockDry};
 use crate::statements::Within;
 use lexer::{Cursor, Parsed};
 use piece_directory::pieces::{Piece, Spot};
+use records::Refusal;
 
 // Where the reader is behind a body: is it the tail; else the counter, the last label, how many instructions, the place behind the 65,536th.
 #[derive(Clone, Copy)]
@@ -91,7 +92,7 @@ fn parse_body(text: &[u8], words: &mut [u64], p: Parsed, counter: u64) -> Body
 
 // A block or the tail, from the start of the text, where the counter is `counter`, its words from the start of the array: slots for the header and the label, the
 // instructions and the terminator.
-pub fn parse_block(text: &[u8], words: &mut [u64], counter: u64) -> Piece
+pub fn parse_block(text: &[u8], words: &mut [u64], counter: u64) -> Result<Piece, Refusal>
     requires { length text.now ≤ 16777216 }
     ensures { BlockIs (block_at counter text.now) result words.new × (length words.new ≡ length words.old) }
 {
@@ -108,7 +109,7 @@ pub fn parse_block(text: &[u8], words: &mut [u64], counter: u64) -> Piece
 }
 
 // The block or tail there. Its words stand from there on, as far as `to`.
-pub fn block_in(text: &[u8], words: &mut [u64], spot: Spot, to: usize) -> Piece
+pub fn block_in(text: &[u8], words: &mut [u64], spot: Spot, to: usize) -> Result<Piece, Refusal>
     requires text_len_bound { (length text.now ≤ text_limit) × (spot.pos ≤ length text.now) }
     requires word_le_to { (spot.word ≤ to) × (to ≤ length words.old) }
     ensures { BlockIn spot.counter (drop spot.pos text.now) spot.word to words.old words.new result }
@@ -119,7 +120,7 @@ pub fn block_in(text: &[u8], words: &mut [u64], spot: Spot, to: usize) -> Piece
 }
 
 // The block or tail at pos, where the counter is `counter`, its words only counted.
-pub fn block_dry(text: &[u8], pos: usize, counter: u64) -> Piece
+pub fn block_dry(text: &[u8], pos: usize, counter: u64) -> Result<Piece, Refusal>
     requires text_len_bound { (length text.now ≤ text_limit) × (pos ≤ length text.now) }
     ensures { BlockDry counter (drop pos text.now) result }
 {

@@ -13,6 +13,7 @@ ghost use Rattle.piece_head.specs.Reading.{params, parameter, shuts};
 use lexer::{Cursor, Parsed};
 use piece_counter::Counter;
 use piece_directory::pieces::Piece;
+use records::Refusal;
 
 // Where the reader is behind the parameters: their number and the return type's, whether `...` ends them, and the counter.
 #[derive(Clone, Copy)]
@@ -143,7 +144,7 @@ fn head_node(text: &[u8], words: &mut [u64], p: Parsed) -> Counter
 }
 
 // The head at the start of a text, its words at the start of `words`, as far as these reach.
-pub fn parse_head(text: &[u8], words: &mut [u64]) -> Piece
+pub fn parse_head(text: &[u8], words: &mut [u64]) -> Result<Piece, Refusal>
     requires { length text.now ≤ 16777216 }
     ensures { HeadIs (head_at text.now) result words.new × (length words.new ≡ length words.old) }
 {
@@ -154,7 +155,7 @@ pub fn parse_head(text: &[u8], words: &mut [u64]) -> Piece
 }
 
 // The head. Its words stand from `word` on, as far as `to`.
-pub fn head_in(text: &[u8], words: &mut [u64], word: usize, to: usize) -> Piece
+pub fn head_in(text: &[u8], words: &mut [u64], word: usize, to: usize) -> Result<Piece, Refusal>
     requires text_len_bound { length text.now ≤ text_limit }
     requires word_le_to { (word ≤ to) × (to ≤ length words.old) }
     ensures { HeadIn text.now word to words.old words.new result }
@@ -163,7 +164,7 @@ pub fn head_in(text: &[u8], words: &mut [u64], word: usize, to: usize) -> Piece
 }
 
 // The head, its words only counted.
-pub fn head_dry(text: &[u8]) -> Piece
+pub fn head_dry(text: &[u8]) -> Result<Piece, Refusal>
     requires text_len_bound { length text.now ≤ text_limit }
     ensures { HeadDry text.now result }
 {
