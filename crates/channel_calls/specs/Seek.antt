@@ -3,8 +3,7 @@
 use Rattle.std.specs.Prelude.{◌≡◌, refl, List, [], ◌∷◌, ◌++◌, ℕ, zero, suc}
 use Rattle.channel_spec.specs.declared.Fired.{Fired}
 use Rattle.channel_spec.specs.Fires.{nth}
-use Rattle.channel_calls.specs.declared.Search.{Search}
-use Rattle.channel_calls.specs.declared.Search.TheVariants.{Found, Left}
+use Rattle.std.specs.Prelude.{ControlFlow, Break, Continue}
 
 -- number k of the calls, or its number among those behind them
 unfoldable pub seek : (k : ℕ) → List Fired → Search

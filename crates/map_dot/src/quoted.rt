@@ -29,16 +29,7 @@ const BACKSLASH: u16 = b'\\' as u16;
 fn is_plain(x: u16) -> bool
     ensures { result ≡ is_plain x }
 {
-    if x < FIRST {
-        return false;
-    }
-    if LAST < x {
-        return false;
-    }
-    if x == QUOTE {
-        return false;
-    }
-    x != BACKSLASH
+    FIRST <= x && x <= LAST && x != QUOTE && x != BACKSLASH
 }
 
 // A capital hexadecimal digit, the last of a number.
@@ -66,10 +57,8 @@ fn put_letters(out: &mut [u8], at: usize, raw: &[u8]) -> usize
     ensures { Stores (letters raw.now) at out.old result out.new }
 {
     let mut k = at;
-    let mut i = 0;
-    while i < raw.len() {
-        k = put_letter(out, k, raw[i] as u16);
-        i += 1;
+    for x in raw {
+        k = put_letter(out, k, u16::from(*x));
     }
     k
 }

@@ -9,8 +9,7 @@ use Rattle.program.specs.Choice.{pick}
 use Rattle.records.specs.Limits.{class_limit, channel_limit}
 use Rattle.records.specs.Questions.{q_rule, q_overlap, q_gap}
 use Rattle.channel_spec.specs.declared.Rule.{Rule}
-use Rattle.channel_spec.specs.declared.Told.{Told}
-use Rattle.channel_spec.specs.declared.Told.TheVariants.{Answer, Refused}
+use Rattle.channel_spec.specs.Told.{Told, Answer, Refused}
 use Rattle.channel_spec.specs.declared.Fired.{Fired}
 use Rattle.channel_spec.specs.declared.Fired.TheVariants.{Channel, Undecided, Nothing}
 use Rattle.channel_spec.specs.Table.{classes, channels, is_bad, first_that, overlap, first_overlap, covers, covered, gap_from, first_gap, or_else, asked_place, judged, permits}

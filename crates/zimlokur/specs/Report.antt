@@ -6,7 +6,7 @@ use Rattle.records.specs.Questions.{q_output}
 use Rattle.records.specs.Pieces.{Answer, refused_at, count, Left, left, Again, again_left}
 use Rattle.trees.specs.Steps.{Part, part}
 use Rattle.map_spec.specs.Buffer.{Outcome, drawn, too_long}
-use Rattle.channel_spec.specs.declared.Told.{Told}
+use Rattle.channel_spec.specs.Told.{Told}
 use Rattle.channel_spec.specs.declared.Told.TheVariants as told
 use Rattle.channel_spec.specs.Answers.{answer_none}
 

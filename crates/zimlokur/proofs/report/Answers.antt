@@ -1,6 +1,6 @@
 -- Each form of what is told is one of the two reports.
 use mathlib.Core.Path.{sym, subst}
-use Rattle.channel_spec.specs.declared.Told.{Told}
+use Rattle.channel_spec.specs.Told.{Told}
 use Rattle.channel_spec.specs.Answers.{answer_none}
 use Rattle.zimlokur.specs.Report.{ReportsChannel, answered, turned_away}
 use Rattle.zimlokur.proofs.report.Goals as goal
