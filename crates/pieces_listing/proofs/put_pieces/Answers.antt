@@ -14,7 +14,7 @@ loop-i-init c = let z : c.args.n - 0 ≡ c.args.n = omega arith in (rw z, rw z, 
 
 pub loop-i-preserved : goal.loop-i-preserved
 loop-i-preserved c =
-    let there = entry_there c.args.directory.now c.loop-i.i c.args.n (rw c.entries_there.ensures at c.loop-i-test.true) in
+    let there = entry_there c.args.directory.now c.loop-i.i c.args.n (rw c.entries_there-i-end.ensures at c.loop-i-test.true) in
     let e = next_line c.args.directory.now c.loop-i.i c.args.n there.0 there.1 in
     let w = went_on (piece_lines (c.loop-i.i + 1) (c.args.n - (c.loop-i.i + 1)) (drop ((c.loop-i.i + 1) * entry_words) c.args.directory.now)) c.put_piece-k.ensures (rw e at c.loop-i.invariant.0) (rw e at c.loop-i.invariant.1) in
     (w.0, w.1, c.put_piece-k.auto.out ∙ c.loop-i.invariant.2)
@@ -22,5 +22,5 @@ loop-i-preserved c =
 pub returns : goal.returns
 unfolding placed stored
 returns c =
-    let e = lines_end c.args.directory.now c.loop-i.i c.args.n (rw c.entries_there.ensures at c.loop-i-test.false) in
+    let e = lines_end c.args.directory.now c.loop-i.i c.args.n (rw c.entries_there-i-end.ensures at c.loop-i-test.false) in
     record { place = rw e at c.loop-i.invariant.0; buffer = rw e at c.loop-i.invariant.1 }
