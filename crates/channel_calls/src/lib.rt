@@ -15,13 +15,12 @@ use std::ops::ControlFlow;
 type Search = ControlFlow<Fired, u64>;
 
 // What an integer constant says, by its upper and its lower word.
+#[tactic(auto, unfolding(channel_spec::specs::Fires::constant))]
 fn constant(upper: u64, lower: u64) -> Fired
     ensures { result ≡ constant upper lower }
 {
-    if upper == 0 {
-        if lower <= (records::CHANNEL_LIMIT as u64) {
-            return Fired::Channel(lower as u16);
-        }
+    if upper == 0 && lower <= u64::from(records::CHANNEL_LIMIT) {
+        return Fired::Channel(lower as u16);
     }
     Fired::Undecided
 }
@@ -38,6 +37,7 @@ fn is_fire(piece: &[u8], kind: u8, word: u64) -> bool
 }
 
 // Which child of a call the callee is.
+#[tactic(auto, unfolding(channel_spec::specs::Fires::callee_place))]
 fn callee_place(detail: u8) -> u8
     ensures { result ≡ callee_place detail }
 {

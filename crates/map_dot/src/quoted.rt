@@ -26,6 +26,7 @@ const QUOTE: u16 = b'"' as u16;
 
 const BACKSLASH: u16 = b'\\' as u16;
 
+#[tactic(auto, unfolding(map_spec::specs::Drawing::is_plain))]
 fn is_plain(x: u16) -> bool
     ensures { result ≡ is_plain x }
 {
@@ -33,6 +34,7 @@ fn is_plain(x: u16) -> bool
 }
 
 // A capital hexadecimal digit, the last of a number.
+#[tactic(auto, unfolding(map_spec::specs::Drawing::hex_digit))]
 fn last_digit(x: u16) -> u8
     ensures { result ≡ hex_digit (x % HEX) }
 {

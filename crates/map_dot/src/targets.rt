@@ -10,6 +10,7 @@ use crate::quoted::Label;
 use buffer::{PAST, put_all};
 
 // The terminators that name targets.
+#[tactic(auto, unfolding(map_spec::specs::Blocks::branches))]
 fn names_targets(kind: u8) -> bool
     ensures { result ≡ branches kind }
 {

@@ -1,7 +1,6 @@
 use mathlib.Core.Path.{◌≡◌, sym, ◌∙◌}
-use Prim.Native.Nat.{◌+◌, ◌-◌, ◌*◌}
+use Prim.Native.Nat.{◌-◌}
 use native.Mathlib.Omega.{arith}
-use Rattle.records.specs.Limits.{entry_words}
 use Rattle.pieces_listing.proofs.Laws.{entry_there, next_end, end_end}
 use Rattle.pieces_listing.proofs.words_end.Goals as goal
 
