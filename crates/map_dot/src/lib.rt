@@ -4,7 +4,7 @@
 pub mod quoted; // quoted.rt: the names of blocks and targets, in quotes
 pub mod targets; // targets.rt: the edges of one block
 
-ghost use Rattle.std.specs.Prelude.{◌≡◌, length, drop};
+ghost use Rattle.std.specs.Prelude.{◌≡◌, ◌++◌, ◌-◌, length, take, drop, replicate};
 ghost use Rattle.records.specs.Limits.{entry_words};
 ghost use Rattle.buffer.specs.Stored.{Stores};
 ghost use Rattle.map_spec.specs.Drawing.{node_line, lines_of};
@@ -61,6 +61,15 @@ fn put_lines(
     k
 }
 
+// Zeros from a place on.
+fn clear(out: &mut [u8], from: usize)
+    ensures { out.new ≡ take from out.old ++ replicate (length out.old - from) 0 }
+{
+    if from < out.len() {
+        out[from..].fill(0);
+    }
+}
+
 // The whole text, as far as there is room; the place behind it.
 fn put_map(out: &mut [u8], text: &[u8], words: &[u64], directory: &[u64], entries: usize) -> usize
     ensures { Stores (map_in entries text.now words.now directory.now) 0 out.old result out.new }
@@ -87,9 +96,9 @@ pub fn block_map(
     let within = n <= records::TEXT_LIMIT;
     let fits = n <= out.len();
     if within && fits {
-        out[n..].fill(0);
+        clear(out, n);
         return Some(n);
     }
-    out.fill(0);
+    clear(out, 0);
     None
 }

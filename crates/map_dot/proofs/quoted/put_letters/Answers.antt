@@ -1,3 +1,4 @@
+-- A letter is stored, and the rest is still to be stored.
 use mathlib.Core.Path.{◌≡◌, refl, ◌∙◌}
 use mathlib.Core.List.{[]}
 use Prim.Native.Nat.{◌+◌, ◌≤◌}
@@ -13,12 +14,12 @@ pub loop-x-preserved : goal.loop-x-preserved
 unfolding letters
 loop-x-preserved c =
     let e = drop_next c.args.raw.now c.loop-x.x-index c.loop-x-test.true in
-    let w = went_on (letters (drop (c.loop-x.x-index + 1) c.args.raw.now)) c.put_letter-k.ensures (rw e at c.loop-x.x-indexnvariant.0) (rw e at c.loop-x.x-indexnvariant.1) in
-    (w.0, w.1, c.put_letter-k.auto.out ∙ c.loop-x.x-indexnvariant.2)
+    let w = went_on (letters (drop (c.loop-x.x-index + 1) c.args.raw.now)) (rw c.from.ensures at c.put_letter-k.ensures) (rw e at c.loop-x.invariant.0) (rw e at c.loop-x.invariant.1) in
+    (w.0, w.1, c.put_letter-k.auto.out ∙ c.loop-x.invariant.2)
 
 pub returns : goal.returns
 unfolding letters placed stored
 returns c =
     let l : length c.args.raw.now ≤ c.loop-x.x-index = c.loop-x-test.false in
     let e : drop c.loop-x.x-index c.args.raw.now ≡ [] = drop_of_length-le c.args.raw.now l in
-    record { place = rw e at c.loop-x.x-indexnvariant.0; buffer = rw e at c.loop-x.x-indexnvariant.1 }
+    record { place = rw e at c.loop-x.invariant.0; buffer = rw e at c.loop-x.invariant.1 }
