@@ -14,7 +14,7 @@ use Rattle.program.specs.Prog.{Prog, Res, run, lead_word}
 use Rattle.grammar.specs.Lexer.{same_word, eat_n, word_if, rank, rank_if}
 use Rattle.lexer.specs.Step.{word_p, rank_p}
 use Rattle.lexer.specs.Reads.{Aim, Finds}
-use Rattle.lexer.specs.declared.Parsed.{Parsed}
+use Rattle.lexer.specs.Parsed.{Parsed}
 use Rattle.attributes.specs.Step.{is_small, letters, letters_p}
 
 -- ---- what stands at the cursor is in no table of words that begin with two letters

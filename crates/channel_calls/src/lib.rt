@@ -33,7 +33,7 @@ fn is_fire(piece: &[u8], kind: u8, word: u64) -> bool
         return false;
     }
     let raw = record_steps::names::text_in(piece, word);
-    lexer_spelling::spells(&lexer::classes(), raw, 0, raw.len(), b"fire")
+    lexer_spelling::spells(raw, 0, raw.len(), b"fire")
 }
 
 // Which child of a call the callee is.

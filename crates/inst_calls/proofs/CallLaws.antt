@@ -21,7 +21,7 @@ use Rattle.grammar.specs.Instructions.{arg_item, func_node, call_rest, call_of}
 use Rattle.lexer.specs.Step.{looks_p, counted_p}
 use Rattle.node_words.specs.Writes.{closes}
 use Rattle.lexer.specs.Reads.{Leads, Goal, made, reach, same, Gives, Comes, Counts}
-use Rattle.lexer.specs.declared.Parsed.{Parsed}
+use Rattle.lexer.specs.Parsed.{Parsed}
 use Rattle.lexer.proofs.Laws.{after, bind_at, scan_run, run_eat, byte_run, some_byte, done, then, val}
 use Rattle.node_words.proofs.Laws.{close_is}
 use Rattle.lexer.proofs.Children.{assoc, child_is, counted_hands, if_there}

@@ -18,8 +18,7 @@ use Rattle.lexer.specs.Step.{bumped}
 use Rattle.node_words.specs.Writes.{pushed, pushes}
 use Rattle.lexer.specs.Reads.{Stands, Ends, at, Leads, Goal, made, same}
 use Rattle.lexer.specs.declared.Cursor.{Cursor}
-use Rattle.lexer.specs.declared.Parsed.{Parsed}
-use Rattle.lexer.specs.declared.Parsed.TheVariants.{Ok, Refused}
+use Rattle.lexer.specs.Parsed.{Parsed, Ok, Err}
 use Rattle.node_words.proofs.Words.{pushed as stands-more}
 use Rattle.lexer.proofs.Laws.{no_ok}
 use Rattle.inst_operands.specs.Found.{There, Found}
@@ -193,4 +192,4 @@ held_pushed {t} {w} {v} {s} {p} {q} x H h = record { there = λ c i. go p refl c
           behind = omega (arith, u.behind, bumped_le d.w);
           stands = λ j a b. ap (λ (z : List ℕ). get_or z (u.first.w + j) 0) n ∙ get_or-set_other w d.w (u.first.w + j) x 0 (λ k. omega (arith, u.count, u.behind)) ∙ u.stands j a (omega arith);
         }
-    go (Refused e y) f c i = no_ok c e y (sym i ∙ h.0 ∙ ap pushed f)
+    go (Err r) f c i = no_ok c r.question r.place (sym i ∙ h.0 ∙ ap pushed f)

@@ -19,8 +19,7 @@ use Rattle.lexer.specs.Step.{bumped, place_p}
 use Rattle.node_words.specs.Writes.{pushed}
 use Rattle.lexer.specs.Reads.{Budget, At, Leads, Goal, made, same, Aim, Finds, Gives}
 use Rattle.lexer.specs.declared.Cursor.{Cursor}
-use Rattle.lexer.specs.declared.Parsed.{Parsed}
-use Rattle.lexer.specs.declared.Parsed.TheVariants.{Ok}
+use Rattle.lexer.specs.Parsed.{Parsed, Ok}
 use Rattle.lexer.proofs.Laws.{g_then, done, val, place_at, g_done}
 use Rattle.lexer.proofs.Children.{assoc}
 use Rattle.types.specs.Reading.{TypeEnds, read, back, none, list_of, Types}

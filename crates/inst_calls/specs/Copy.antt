@@ -2,8 +2,7 @@
 -- Assumes nothing.
 use Rattle.std.specs.Prelude.{◌≡◌, List, ℕ, zero, suc, ◌+◌, ◌≤◌, ◌<◌, length, get_or, set}
 use Rattle.lexer.specs.declared.Cursor.{Cursor}
-use Rattle.lexer.specs.declared.Parsed.{Parsed}
-use Rattle.lexer.specs.declared.Parsed.TheVariants.{Ok}
+use Rattle.lexer.specs.Parsed.{Parsed, Ok}
 
 -- the n words from `from` on stand from `to` on too, one after the other, as far as the array reaches
 unfoldable pub copied : ℕ → ℕ → ℕ → List ℕ → List ℕ

@@ -13,8 +13,7 @@ use Rattle.grammar.specs.Types.{TypeOut, parse_type}
 use Rattle.grammar.specs.Instructions.{is_void}
 use Rattle.lexer.specs.Reads.{Inside}
 use Rattle.lexer.specs.declared.Cursor.{Cursor}
-use Rattle.lexer.specs.declared.Parsed.{Parsed}
-use Rattle.lexer.specs.declared.Parsed.TheVariants.{Ok, Refused}
+use Rattle.lexer.specs.Parsed.{Parsed, Ok, Err}
 
 -- what stands before a call's callee, but for a function type
 abbrev pub call_type : Prog TypeOut
@@ -31,7 +30,7 @@ pub record Voids (text : List ℕ) (p : Parsed) (v : Bool) : Type 0 where
 -- x is the one word of void's node, and there is such a word
 abbrev pub void_p : Parsed → ℕ → Bool
 void_p (Ok c) x = ltb 0 c.w && eqb x (header (kind Void) d_none 0 1)
-void_p (Refused e q) x = false
+void_p (Err r) x = false
 
 -- behind a call without a destination, by whether it is void
 abbrev pub behind_call : Bool → ℕ → List ℕ → Prog (Counted (List ℕ))

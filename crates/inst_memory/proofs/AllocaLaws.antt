@@ -10,8 +10,7 @@ use Rattle.program.specs.Prog.{Prog, ret, ok}
 use Rattle.grammar.specs.Instructions.{clauses, alloca_node}
 use Rattle.node_words.specs.Writes.{joined, pushed, pushes, closes}
 use Rattle.lexer.specs.Reads.{At, at, out, Leads, Goal, made, same}
-use Rattle.lexer.specs.declared.Parsed.{Parsed}
-use Rattle.lexer.specs.declared.Parsed.TheVariants.{Refused}
+use Rattle.lexer.specs.Parsed.{Parsed, Refused}
 use Rattle.lexer.proofs.Laws.{spare}
 use Rattle.node_words.proofs.Laws.{push_then, close_is}
 use Rattle.inst_operands.specs.Trailing.{align_of}

@@ -16,7 +16,7 @@ use Rattle.grammar.specs.Values.{pair_child, parse_value}
 use Rattle.grammar.specs.Instructions.{parse_trailing, among, gep_inst_indices}
 use Rattle.lexer.specs.Step.{looks_p, passed}
 use Rattle.lexer.specs.Reads.{Leads, made, same, reach, Gives, Counts, Aim, Finds}
-use Rattle.lexer.specs.declared.Parsed.{Parsed}
+use Rattle.lexer.specs.Parsed.{Parsed}
 use Rattle.lexer.proofs.Laws.{done, stay, then, val, byte_yes, byte_no, token_yes, token_no, more, no_more}
 use Rattle.lexer.proofs.Children.{if_there}
 use Rattle.inst_operands.specs.Trailing.{align_of}

@@ -7,7 +7,7 @@ use Rattle.records.specs.Limits.{depth_limit}
 use Rattle.grammar.specs.Values.{parse_typed_val}
 use Rattle.grammar.specs.Instructions.{Clauses, clauses_in}
 use Rattle.node_words.specs.Writes.{pushed, pushes}
-use Rattle.lexer.specs.declared.Parsed.{Parsed}
+use Rattle.lexer.specs.Parsed.{Parsed}
 
 -- the clauses of an alloca: a count is a typed value
 abbrev pub counting : ℕ → Option (List ℕ) → List ℕ → Prog Clauses

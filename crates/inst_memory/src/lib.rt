@@ -7,7 +7,6 @@ ghost use Rattle.program.specs.Bytes.{bytes};
 ghost use Rattle.grammar.specs.Lexer.{skip_keyword, rank, spelled};
 ghost use Rattle.grammar.specs.Instructions.{skip_atomic_ordering, load_operands, store_operands, access, parse_load, parse_store, gep_inst_indices, parse_gep_inst, pointer_then_value, parse_cmpxchg, rmw_ops, rmw_op, parse_atomicrmw, clauses, parse_alloca, parse_extractvalue, parse_fence};
 ghost use Rattle.records.specs.Details.{d_count, d_alloca_align};
-ghost use Rattle.lexer.specs.Table.{Classes};
 ghost use Rattle.lexer.specs.Step.{word_p};
 ghost use Rattle.lexer_names.specs.Names.{part, raw_word};
 ghost use Rattle.lexer.specs.Reads.{Leads, Gives, made, same, Reads};
@@ -25,101 +24,88 @@ use lexer::Parsed;
 use types::Listed;
 
 // Is `atomic` the next word?
-pub fn is_atomic(classes: &[u8; 256], text: &[u8], p: Parsed) -> bool
-    requires { Classes classes.now }
+pub fn is_atomic(text: &[u8], p: Parsed) -> bool
     ensures { result ≡ word_p text.now p (bytes "atomic") }
 {
-    lexer::word(classes, text, p, b"atomic")
+    lexer::word(text, p, b"atomic")
 }
 
 // `volatile`, if it stands there.
-pub fn skip_volatile(classes: &[u8; 256], text: &[u8], p: Parsed) -> Parsed
-    requires { Classes classes.now }
+pub fn skip_volatile(text: &[u8], p: Parsed) -> Parsed
     ensures { Gives (skip_keyword (bytes "volatile")) tt text.now p result }
 {
-    lexer::skip_keyword(classes, text, p, b"volatile")
+    lexer::skip_keyword(text, p, b"volatile")
 }
 
 // `weak`, if it stands there.
-pub fn skip_weak(classes: &[u8; 256], text: &[u8], p: Parsed) -> Parsed
-    requires { Classes classes.now }
+pub fn skip_weak(text: &[u8], p: Parsed) -> Parsed
     ensures { Gives (skip_keyword (bytes "weak")) tt text.now p result }
 {
-    lexer::skip_keyword(classes, text, p, b"weak")
+    lexer::skip_keyword(text, p, b"weak")
 }
 
 // `inalloca`, if it stands there.
-pub fn skip_inalloca(classes: &[u8; 256], text: &[u8], p: Parsed) -> Parsed
-    requires { Classes classes.now }
+pub fn skip_inalloca(text: &[u8], p: Parsed) -> Parsed
     ensures { Gives (skip_keyword (bytes "inalloca")) tt text.now p result }
 {
-    lexer::skip_keyword(classes, text, p, b"inalloca")
+    lexer::skip_keyword(text, p, b"inalloca")
 }
 
 // `syncscope(..)`, where it stands.
-fn opt_scope(classes: &[u8; 256], text: &[u8], p: Parsed) -> Parsed
-    requires { Classes classes.now }
+fn opt_scope(text: &[u8], p: Parsed) -> Parsed
     ensures { Gives opt_scope tt text.now p result }
 {
-    if lexer::word(classes, text, p, b"syncscope") {
+    if lexer::word(text, p, b"syncscope") {
         let q = lexer::pass_word(text, p, b"syncscope");
-        return lexer_names::skip_parens(classes, text, q);
+        return lexer_names::skip_parens(text, q);
     }
     p
 }
 
+static ORDERINGS: [&[u8]; 6] = [
+    b"seq_cst",
+    b"acq_rel",
+    b"acquire",
+    b"release",
+    b"monotonic",
+    b"unordered",
+];
+
 // A scope and an ordering, where they stand (`skip_atomic_ordering`).
-pub fn skip_atomic_ordering(classes: &[u8; 256], text: &[u8], p: Parsed) -> Parsed
-    requires { Classes classes.now }
+pub fn skip_atomic_ordering(text: &[u8], p: Parsed) -> Parsed
     ensures { Gives skip_atomic_ordering tt text.now p result }
 {
-    let lens: [u8; 6] = [7, 7, 7, 7, 9, 9];
-    let q = lexer::eat_ws(classes, text, p);
-    let q1 = opt_scope(classes, text, q);
-    lexer_keywords::skip_one(
-        classes,
-        text,
-        q1,
-        &lens,
-        b"seq_cstacq_relacquirereleasemonotonicunordered",
-    )
+    let q = lexer::eat_ws(text, p);
+    let q1 = opt_scope(text, q);
+    lexer_keywords::skip_one(text, q1, &ORDERINGS)
 }
 
 // T, T V
-fn load_operands(classes: &[u8; 256], text: &[u8], words: &mut [u64], p: Parsed) -> Parsed
-    requires { Classes classes.now }
+fn load_operands(text: &[u8], words: &mut [u64], p: Parsed) -> Parsed
     ensures { Reads load_operands text.now p words.old result words.new }
 {
-    let q = types::parse_type(classes, text, words, p, records::DEPTH_LIMIT);
-    let q1 = lexer::expect_token(classes, text, q, b',');
-    inst_operands::parse_operand(classes, text, words, q1)
+    let q = types::parse_type(text, words, p, records::DEPTH_LIMIT);
+    let q1 = lexer::expect_token(text, q, b',');
+    inst_operands::parse_operand(text, words, q1)
 }
 
 // T V, T V
-fn store_operands(classes: &[u8; 256], text: &[u8], words: &mut [u64], p: Parsed) -> Parsed
-    requires { Classes classes.now }
+fn store_operands(text: &[u8], words: &mut [u64], p: Parsed) -> Parsed
     ensures { Reads store_operands text.now p words.old result words.new }
 {
-    let q = values::parse_typed_val(classes, text, words, p, records::DEPTH_LIMIT);
-    let q1 = lexer::expect_token(classes, text, q, b',');
-    inst_operands::parse_operand(classes, text, words, q1)
+    let q = values::parse_typed_val(text, words, p, records::DEPTH_LIMIT);
+    let q1 = lexer::expect_token(text, q, b',');
+    inst_operands::parse_operand(text, words, q1)
 }
 
 // The operands of a load, or of a store.
-fn access_operands(
-    classes: &[u8; 256],
-    text: &[u8],
-    words: &mut [u64],
-    p: Parsed,
-    store: bool,
-) -> Parsed
-    requires { Classes classes.now }
+fn access_operands(text: &[u8], words: &mut [u64], p: Parsed, store: bool) -> Parsed
     ensures { Reads (access_operands store) text.now p words.old result words.new }
 {
     if store {
-        return store_operands(classes, text, words, p);
+        return store_operands(text, words, p);
     }
-    load_operands(classes, text, words, p)
+    load_operands(text, words, p)
 }
 
 // What a load and a store do not share: which it is, the kinds of its node, and how many children.
@@ -133,42 +119,25 @@ struct Form {
 
 // A load or a store. The alignment stands before the operands and is known behind them: a slot is left for it, and where there is none the
 // operands are read again without the slot.
-fn parse_access(
-    classes: &[u8; 256],
-    text: &[u8],
-    words: &mut [u64],
-    p: Parsed,
-    dest: u64,
-    form: Form,
-) -> Parsed
-    requires { Classes classes.now }
+fn parse_access(text: &[u8], words: &mut [u64], p: Parsed, dest: u64, form: Form) -> Parsed
     ensures { Leads (access form.kind form.atomic form.n (access_operands form.store) dest) 3 [] (made same text.now p) text.now p p words.old result words.new }
 {
     let q = node_words::begin(words, p, dest);
-    let q1 = lexer::eat_ws(classes, text, q);
-    if is_atomic(classes, text, q1) {
+    let q1 = lexer::eat_ws(text, q);
+    if is_atomic(text, q1) {
         let q2 = lexer::pass_word(text, q1, b"atomic");
-        let q3 = skip_volatile(classes, text, q2);
-        let q4 = access_operands(classes, text, words, q3, form.store);
-        let q5 = skip_atomic_ordering(classes, text, q4);
-        return inst_operands::end(
-            classes,
-            text,
-            words,
-            p,
-            q5,
-            form.atomic,
-            records::D_NONE,
-            form.n,
-        );
+        let q3 = skip_volatile(text, q2);
+        let q4 = access_operands(text, words, q3, form.store);
+        let q5 = skip_atomic_ordering(text, q4);
+        return inst_operands::end(text, words, p, q5, form.atomic, records::D_NONE, form.n);
     }
-    let p1 = skip_volatile(classes, text, q1);
+    let p1 = skip_volatile(text, q1);
     let q6 = node_words::push(words, p1, 0);
-    let q7 = access_operands(classes, text, words, q6, form.store);
-    let t = inst_operands::parse_trailing(classes, text, q7);
+    let q7 = access_operands(text, words, q6, form.store);
+    let t = inst_operands::parse_trailing(text, q7);
     let q8 = t.p;
     if t.has == 0 {
-        let z = access_operands(classes, text, words, p1, form.store);
+        let z = access_operands(text, words, p1, form.store);
         let q9 = inst_operands::resume(z, q8);
         return node_words::close(words, p, q9, form.kind, records::D_NONE, form.n);
     }
@@ -177,14 +146,7 @@ fn parse_access(
 }
 
 // `load T, T V`
-pub fn parse_load(
-    classes: &[u8; 256],
-    text: &[u8],
-    words: &mut [u64],
-    p: Parsed,
-    dest: u64,
-) -> Parsed
-    requires { Classes classes.now }
+pub fn parse_load(text: &[u8], words: &mut [u64], p: Parsed, dest: u64) -> Parsed
     ensures { Leads (parse_load dest) 3 [] (made same text.now p) text.now p p words.old result words.new }
 {
     let form = Form {
@@ -193,12 +155,11 @@ pub fn parse_load(
         atomic: records::K_ATOMIC_LOAD,
         n: 2,
     };
-    parse_access(classes, text, words, p, dest, form)
+    parse_access(text, words, p, dest, form)
 }
 
 // `store T V, T V`, with no destination.
-pub fn parse_store(classes: &[u8; 256], text: &[u8], words: &mut [u64], p: Parsed) -> Parsed
-    requires { Classes classes.now }
+pub fn parse_store(text: &[u8], words: &mut [u64], p: Parsed) -> Parsed
     ensures { Leads parse_store 3 [] (made same text.now p) text.now p p words.old result words.new }
 {
     let form = Form {
@@ -207,53 +168,36 @@ pub fn parse_store(classes: &[u8; 256], text: &[u8], words: &mut [u64], p: Parse
         atomic: records::K_ATOMIC_STORE,
         n: 3,
     };
-    parse_access(classes, text, words, p, 0, form)
+    parse_access(text, words, p, 0, form)
 }
 
 // T V, T V: the pointer is read first and stands behind the value's type.
-fn pointer_then_value(classes: &[u8; 256], text: &[u8], words: &mut [u64], p: Parsed) -> Parsed
-    requires { Classes classes.now }
+fn pointer_then_value(text: &[u8], words: &mut [u64], p: Parsed) -> Parsed
     ensures { Leads pointer_then_value 0 [] (richly text.now (made same text.now p)) text.now p p words.old result words.new }
 {
-    let q = inst_operands::pass_operand(classes, text, p);
+    let q = inst_operands::pass_operand(text, p);
     let q1 = node_words::join(p, q);
-    let q2 = lexer::expect_token(classes, text, q1, b',');
-    let q3 = types::parse_type(classes, text, words, q2, records::DEPTH_LIMIT);
+    let q2 = lexer::expect_token(text, q1, b',');
+    let q3 = types::parse_type(text, words, q2, records::DEPTH_LIMIT);
     let z = inst_operands::resume(q3, p);
-    let z1 = inst_operands::parse_operand(classes, text, words, z);
+    let z1 = inst_operands::parse_operand(text, words, z);
     let q4 = inst_operands::resume(z1, q3);
-    values::parse_value(classes, text, words, q4, records::DEPTH_LIMIT)
+    values::parse_value(text, words, q4, records::DEPTH_LIMIT)
 }
 
 // `cmpxchg T V, T V, T V ..`
-pub fn parse_cmpxchg(
-    classes: &[u8; 256],
-    text: &[u8],
-    words: &mut [u64],
-    p: Parsed,
-    dest: u64,
-) -> Parsed
-    requires { Classes classes.now }
+pub fn parse_cmpxchg(text: &[u8], words: &mut [u64], p: Parsed, dest: u64) -> Parsed
     ensures { Leads (parse_cmpxchg dest) 3 [] (richly text.now (made same text.now p)) text.now p p words.old result words.new }
 {
     let mut q = node_words::begin(words, p, dest);
-    q = skip_weak(classes, text, q);
-    q = skip_volatile(classes, text, q);
-    q = pointer_then_value(classes, text, words, q);
-    q = lexer::expect_token(classes, text, q, b',');
-    q = inst_operands::parse_operand(classes, text, words, q);
-    q = skip_atomic_ordering(classes, text, q);
-    q = skip_atomic_ordering(classes, text, q);
-    inst_operands::end(
-        classes,
-        text,
-        words,
-        p,
-        q,
-        records::K_CMPXCHG,
-        records::D_NONE,
-        4,
-    )
+    q = skip_weak(text, q);
+    q = skip_volatile(text, q);
+    q = pointer_then_value(text, words, q);
+    q = lexer::expect_token(text, q, b',');
+    q = inst_operands::parse_operand(text, words, q);
+    q = skip_atomic_ordering(text, q);
+    q = skip_atomic_ordering(text, q);
+    inst_operands::end(text, words, p, q, records::K_CMPXCHG, records::D_NONE, 4)
 }
 
 // An operation of `atomicrmw`, as its rank in ast.rs order.
@@ -266,24 +210,23 @@ struct RmwOp {
 // How many operations there are.
 const RMW_OPS: usize = 7;
 
+static RMW_WORDS: [&[u8]; 7] = [b"xchg", b"add", b"sub", b"and", b"or", b"xor", b"nand"];
+
 // The rank of the operation that stands from a place to another.
-fn rmw_rank(classes: &[u8; 256], text: &[u8], from: usize, to: usize) -> usize
-    requires { Classes classes.now }
+fn rmw_rank(text: &[u8], from: usize, to: usize) -> usize
     ensures { result ≡ rank (spelled (raw_word (part text.now from to))) rmw_ops }
 {
-    let lens: [u8; 7] = [4, 3, 3, 3, 2, 3, 4];
-    lexer_spelling::spelled_rank(classes, text, from, to, &lens, b"xchgaddsubandorxornand")
+    lexer_spelling::spelled_rank(text, from, to, &RMW_WORDS)
 }
 
 // The operation's word, quoted or not; 9 behind any other.
-fn rmw_op(classes: &[u8; 256], text: &[u8], p: Parsed) -> RmwOp
-    requires { Classes classes.now }
+fn rmw_op(text: &[u8], p: Parsed) -> RmwOp
     ensures { Gives rmw_op result.r text.now p result.p }
 {
-    let q = lexer::eat_ws(classes, text, p);
-    let x = lexer_names::read_word(classes, text, q);
+    let q = lexer::eat_ws(text, p);
+    let x = lexer_names::read_word(text, q);
     let q1 = x.p;
-    let r = rmw_rank(classes, text, x.start, x.end);
+    let r = rmw_rank(text, x.start, x.end);
     if r < RMW_OPS {
         return RmwOp { p: q1, r: r as u8 };
     }
@@ -292,46 +235,31 @@ fn rmw_op(classes: &[u8; 256], text: &[u8], p: Parsed) -> RmwOp
 }
 
 // `atomicrmw OP T V, T V ..`
-pub fn parse_atomicrmw(
-    classes: &[u8; 256],
-    text: &[u8],
-    words: &mut [u64],
-    p: Parsed,
-    dest: u64,
-) -> Parsed
-    requires { Classes classes.now }
+pub fn parse_atomicrmw(text: &[u8], words: &mut [u64], p: Parsed, dest: u64) -> Parsed
     ensures { Leads (parse_atomicrmw dest) 3 [] (richly text.now (made same text.now p)) text.now p p words.old result words.new }
 {
     let mut q = node_words::begin(words, p, dest);
-    q = skip_volatile(classes, text, q);
-    let op = rmw_op(classes, text, q);
+    q = skip_volatile(text, q);
+    let op = rmw_op(text, q);
     q = op.p;
-    q = pointer_then_value(classes, text, words, q);
-    q = skip_atomic_ordering(classes, text, q);
-    inst_operands::end(classes, text, words, p, q, records::K_ATOMIC_RMW, op.r, 3)
+    q = pointer_then_value(text, words, q);
+    q = skip_atomic_ordering(text, q);
+    inst_operands::end(text, words, p, q, records::K_ATOMIC_RMW, op.r, 3)
 }
 
 // `extractvalue T V, N`: the number's slot is filled behind the operand.
-pub fn parse_extractvalue(
-    classes: &[u8; 256],
-    text: &[u8],
-    words: &mut [u64],
-    p: Parsed,
-    dest: u64,
-) -> Parsed
-    requires { Classes classes.now }
+pub fn parse_extractvalue(text: &[u8], words: &mut [u64], p: Parsed, dest: u64) -> Parsed
     ensures { Leads (parse_extractvalue dest) 3 [] (made same text.now p) text.now p p words.old result words.new }
 {
     let mut q = node_words::begin(words, p, dest);
     q = node_words::push(words, q, 0);
-    q = inst_operands::parse_operand(classes, text, words, q);
-    q = lexer::expect_token(classes, text, q, b',');
-    q = lexer::eat_ws(classes, text, q);
-    let n = number_counts::parse_int(classes, text, q, 0, records::INDEX_LIMIT);
+    q = inst_operands::parse_operand(text, words, q);
+    q = lexer::expect_token(text, q, b',');
+    q = lexer::eat_ws(text, q);
+    let n = number_counts::parse_int(text, q, 0, records::INDEX_LIMIT);
     q = n.p;
     q = node_words::patch(words, p, q, 2, n.v);
     inst_operands::end(
-        classes,
         text,
         words,
         p,
@@ -343,22 +271,12 @@ pub fn parse_extractvalue(
 }
 
 // `fence ..`
-pub fn parse_fence(classes: &[u8; 256], text: &[u8], words: &mut [u64], p: Parsed) -> Parsed
-    requires { Classes classes.now }
+pub fn parse_fence(text: &[u8], words: &mut [u64], p: Parsed) -> Parsed
     ensures { Leads parse_fence 2 [] (made same text.now p) text.now p p words.old result words.new }
 {
     let mut q = node_words::begin(words, p, 0);
-    q = skip_atomic_ordering(classes, text, q);
-    inst_operands::end(
-        classes,
-        text,
-        words,
-        p,
-        q,
-        records::K_FENCE,
-        records::D_NONE,
-        0,
-    )
+    q = skip_atomic_ordering(text, q);
+    inst_operands::end(text, words, p, q, records::K_FENCE, records::D_NONE, 0)
 }
 
 // What stands behind an alloca's type: `n` is 0 where there is no count, `has` is 0 where there is no alignment.
@@ -371,38 +289,33 @@ struct Rest {
 }
 
 // The last count, written, and the last alignment.
-fn alloca_rest(classes: &[u8; 256], text: &[u8], words: &mut [u64], p: Parsed) -> Rest
-    requires { Classes classes.now }
+fn alloca_rest(text: &[u8], words: &mut [u64], p: Parsed) -> Rest
     ensures { Leads (counting 16777217 none []) 0 [] (made (λ ws. clauses (counted result.n ws) (align_of result.has result.v)) text.now p) text.now p p words.old result.p words.new }
 {
     let mut q = p;
     let mut n: u8 = 0;
     let mut has: u8 = 0;
     let mut v: u64 = 0;
-    let mut left: usize = records::TURNS;
-    while 0 < left {
-        q = lexer::eat_ws(classes, text, q);
+    for _left in (0..records::TURNS).rev() {
+        q = lexer::eat_ws(text, q);
         if lexer::looks(text, q, b',') {
             q = lexer::pass(text, q, 1);
-            q = lexer::eat_ws(classes, text, q);
-            if lexer::word(classes, text, q, b"align") {
+            q = lexer::eat_ws(text, q);
+            if lexer::word(text, q, b"align") {
                 q = lexer::pass_word(text, q, b"align");
-                q = lexer::eat_ws(classes, text, q);
-                let k = number_counts::parse_int(classes, text, q, 0, records::NUMBER_LIMIT);
+                q = lexer::eat_ws(text, q);
+                let k = number_counts::parse_int(text, q, 0, records::NUMBER_LIMIT);
                 q = k.p;
                 has = 1;
                 v = k.v;
-                left -= 1;
             } else {
                 if lexer::looks(text, q, b'!') {
                     q = lexer::pass(text, q, 1);
-                    q = lexer_names::skip_metadata_ref(classes, text, q);
-                    left -= 1;
+                    q = lexer_names::skip_metadata_ref(text, q);
                 } else {
                     q = inst_operands::resume(p, q);
-                    q = values::parse_typed_val(classes, text, words, q, records::DEPTH_LIMIT);
+                    q = values::parse_typed_val(text, words, q, records::DEPTH_LIMIT);
                     n = 1;
-                    left -= 1;
                 }
             }
         } else {
@@ -413,12 +326,11 @@ fn alloca_rest(classes: &[u8; 256], text: &[u8], words: &mut [u64], p: Parsed) -
 }
 
 // The same, not written.
-fn pass_rest(classes: &[u8; 256], text: &[u8], p: Parsed) -> Rest
-    requires { Classes classes.now }
+fn pass_rest(text: &[u8], p: Parsed) -> Rest
     ensures { Dry (counting 16777217 none []) (made (λ ws. clauses (counted result.n ws) (align_of result.has result.v)) text.now p) text.now p result.p }
 {
     let mut none: [u64; 0] = [];
-    alloca_rest(classes, text, &mut none, p)
+    alloca_rest(text, &mut none, p)
 }
 
 // The alignment's word, where there is one.
@@ -455,36 +367,29 @@ fn one_bit(d: u8) -> u8
 }
 
 // `alloca T, T V, align N`
-pub fn parse_alloca(
-    classes: &[u8; 256],
-    text: &[u8],
-    words: &mut [u64],
-    p: Parsed,
-    dest: u64,
-) -> Parsed
-    requires { Classes classes.now }
+pub fn parse_alloca(text: &[u8], words: &mut [u64], p: Parsed, dest: u64) -> Parsed
     ensures { Leads (parse_alloca dest) 3 [] (richly text.now (made same text.now p)) text.now p p words.old result words.new }
 {
     let q = node_words::begin(words, p, dest);
-    let p1 = skip_inalloca(classes, text, q);
-    let q1 = inst_operands::pass_type(classes, text, p1);
+    let p1 = skip_inalloca(text, q);
+    let q1 = inst_operands::pass_type(text, p1);
     let p2 = node_words::join(p1, q1);
     if lexer::looks(text, p2, b'(') {
         return lexer::refuse(p2, records::Q_STATEMENT);
     }
-    let s = pass_rest(classes, text, p2);
+    let s = pass_rest(text, p2);
     let q2 = s.p;
     let q3 = node_words::join(p2, q2);
     let q4 = push_align(words, q3, s.has, s.v);
     let z = inst_operands::resume(q4, p1);
-    let z1 = types::parse_type(classes, text, words, z, records::DEPTH_LIMIT);
+    let z1 = types::parse_type(text, words, z, records::DEPTH_LIMIT);
     let q5 = inst_operands::resume(z1, q4);
     let d = align_bit(s.has);
     if s.n == 0 {
         return node_words::close(words, p, q5, records::K_ALLOCA, d, 1);
     }
     let z2 = inst_operands::resume(q5, p2);
-    let s2 = alloca_rest(classes, text, words, z2);
+    let s2 = alloca_rest(text, words, z2);
     let z3 = s2.p;
     let q6 = inst_operands::resume(z3, q5);
     let d1 = one_bit(d);
@@ -492,27 +397,23 @@ pub fn parse_alloca(
 }
 
 // The indices of a getelementptr and its metadata, from before the comma; base type and pointer are children before them.
-fn gep_inst_indices(classes: &[u8; 256], text: &[u8], words: &mut [u64], p: Parsed) -> Listed
-    requires { Classes classes.now }
+fn gep_inst_indices(text: &[u8], words: &mut [u64], p: Parsed) -> Listed
     ensures { Leads (gep_inst_indices turns 2 []) 0 [] (made (listed result.n 0) text.now p) text.now p p words.old result.p words.new }
 {
     let mut q = p;
     let mut n: u16 = 2;
-    let mut left: usize = records::TURNS;
-    while 0 < left {
-        q = lexer::eat_ws(classes, text, q);
+    for _left in (0..records::TURNS).rev() {
+        q = lexer::eat_ws(text, q);
         if lexer::looks(text, q, b',') {
             q = lexer::pass(text, q, 1);
-            q = lexer::eat_ws(classes, text, q);
+            q = lexer::eat_ws(text, q);
             if lexer::looks(text, q, b'!') {
                 q = lexer::pass(text, q, 1);
-                q = lexer_names::skip_metadata_ref(classes, text, q);
-                left -= 1;
+                q = lexer_names::skip_metadata_ref(text, q);
             } else {
-                let x = values::pair_child(classes, text, words, q, n, records::DEPTH_LIMIT);
+                let x = values::pair_child(text, words, q, n, records::DEPTH_LIMIT);
                 q = x.p;
                 n = x.n;
-                left -= 1;
             }
         } else {
             return Listed { p: q, n, dots: 0 };
@@ -522,23 +423,16 @@ fn gep_inst_indices(classes: &[u8; 256], text: &[u8], words: &mut [u64], p: Pars
 }
 
 // `getelementptr T, T V, T V, ..`
-pub fn parse_gep_inst(
-    classes: &[u8; 256],
-    text: &[u8],
-    words: &mut [u64],
-    p: Parsed,
-    dest: u64,
-) -> Parsed
-    requires { Classes classes.now }
+pub fn parse_gep_inst(text: &[u8], words: &mut [u64], p: Parsed, dest: u64) -> Parsed
     ensures { Leads (parse_gep_inst dest) 2 [] (made same text.now p) text.now p p words.old result words.new }
 {
     let q = node_words::begin(words, p, dest);
-    let f = value_leaves::parse_gep_flags(classes, text, q);
+    let f = value_leaves::parse_gep_flags(text, q);
     let q1 = f.p;
-    let q2 = types::parse_type(classes, text, words, q1, records::DEPTH_LIMIT);
-    let q3 = lexer::expect_token(classes, text, q2, b',');
-    let q4 = inst_operands::parse_operand(classes, text, words, q3);
-    let l = gep_inst_indices(classes, text, words, q4);
+    let q2 = types::parse_type(text, words, q1, records::DEPTH_LIMIT);
+    let q3 = lexer::expect_token(text, q2, b',');
+    let q4 = inst_operands::parse_operand(text, words, q3);
+    let l = gep_inst_indices(text, words, q4);
     let q5 = l.p;
     node_words::close(words, p, q5, records::K_GEP, f.v, l.n)
 }

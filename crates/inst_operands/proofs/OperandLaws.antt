@@ -14,8 +14,7 @@ use Rattle.node_words.specs.Writes.{joined, pushed, pushes}
 use Rattle.lexer.specs.Step.{bumped}
 use Rattle.lexer.specs.Reads.{Budget, Stands, At, Ends, at, out, Leads, Goal, made, same, Gave, got, not, Gives}
 use Rattle.lexer.specs.declared.Cursor.{Cursor}
-use Rattle.lexer.specs.declared.Parsed.{Parsed}
-use Rattle.lexer.specs.declared.Parsed.TheVariants.{Ok, Refused}
+use Rattle.lexer.specs.Parsed.{Parsed, Ok, Refused, Err}
 use Rattle.node_words.proofs.Words.{front}
 use Rattle.lexer.proofs.Laws.{after, bind_at, at_less, at_place, at_part, at_whole}
 use Rattle.node_words.proofs.Laws.{at_push}
@@ -100,7 +99,7 @@ ok_not a i e x h = absurd (let z : ◌≡◌ {A = ℕ} 0 1 = cc in omega arith)
 
 pub resumed_out : (e x : ℕ) (p : Parsed) → resumed p (Refused e x) ≡ Refused e x
 resumed_out e x (Ok c) = refl
-resumed_out e x (Refused f y) = refl
+resumed_out e x (Err r) = refl
 
 pub again : {A B : Type 0} {f : Prog (List ℕ)} {g : Prog A} (h : List ℕ → A → Prog B) {al : A} {c : ℕ} {mid : List ℕ} {E : Goal B} {text : List ℕ} {p0 p2 p3 q t p4 p5 p' : Parsed} {w w3 w4 v4 w' : List ℕ}
     → ((p3 ≡ pushed p2) × (w3 ≡ pushes 0 p2 w)) → Leads f 0 [] (made same text p3) text p3 p3 w3 q w4 → Gives g al text q t → Leads f 0 [] (made same text p2) text p2 p2 w4 p4 v4 → p5 ≡ resumed p4 t

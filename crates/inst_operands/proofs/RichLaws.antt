@@ -7,7 +7,7 @@ use native.Mathlib.Omega.{arith}
 use Rattle.program.specs.Prog.{Prog, Res, ◌>>=◌}
 use Rattle.lexer.specs.Reads.{Budget, At, Ends, at, out, Leads, Goal, made}
 use Rattle.lexer.specs.declared.Cursor.{Cursor}
-use Rattle.lexer.specs.declared.Parsed.{Parsed}
+use Rattle.lexer.specs.Parsed.{Parsed}
 use Rattle.lexer.proofs.Laws.{after, bind_at, at_less, at_part, at_whole}
 use Rattle.inst_operands.specs.Rich.{Rich, richly}
 

@@ -11,8 +11,7 @@ use Rattle.grammar.specs.Types.{Listed, TypeOut, plain, opened, whole, whole_of}
 use Rattle.node_words.specs.Writes.{joined}
 use Rattle.lexer.specs.Reads.{Budget, Stands, At, Ends, at, out, Leads, Goal, made, same}
 use Rattle.lexer.specs.declared.Cursor.{Cursor}
-use Rattle.lexer.specs.declared.Parsed.{Parsed}
-use Rattle.lexer.specs.declared.Parsed.TheVariants.{Ok, Refused}
+use Rattle.lexer.specs.Parsed.{Parsed, Ok, Refused, Err}
 use Rattle.node_words.proofs.Words.{front}
 use Rattle.lexer.proofs.Laws.{after, bind_at, no_ok, at_less, at_part, at_whole}
 use Rattle.types.specs.Reading.{TypeEnds, read, back, none, typed, Listing}
@@ -29,7 +28,7 @@ found_on {A} {f} {text} {p} {q} {r} {a} F h = record { there = λ c t. go q refl
   where
     go : (y : Parsed) → q ≡ y → (c : Cursor) → r ≡ Ok c → There f text p a
     go (Ok d) i c t = F.there d i
-    go (Refused e x) i c t = no_ok c e x (sym t ∙ h e x i)
+    go (Err r) i c t = no_ok c r.question r.place (sym t ∙ h r.question r.place i)
 
 pub found_not : {A : Type 0} {f : Prog A} {text : List ℕ} {p q : Parsed} {a : A} (e x : ℕ) → q ≡ Refused e x → Found f text p q a
 found_not e x o = record { there = λ c t. no_ok c e x (sym t ∙ o) }

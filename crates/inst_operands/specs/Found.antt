@@ -4,8 +4,7 @@ use Rattle.std.specs.Prelude.{◌≡◌, List, ℕ, ◌≤◌, length, drop}
 use Rattle.program.specs.Prog.{Prog, ok, run}
 use Rattle.grammar.specs.Types.{TypeOut, plain, opened}
 use Rattle.lexer.specs.declared.Cursor.{Cursor}
-use Rattle.lexer.specs.declared.Parsed.{Parsed}
-use Rattle.lexer.specs.declared.Parsed.TheVariants.{Ok}
+use Rattle.lexer.specs.Parsed.{Parsed, Ok}
 
 -- From p on, f gives a.
 pub record There {A : Type 0} (f : Prog A) (text : List ℕ) (p : Parsed) (a : A) : Type 0 where

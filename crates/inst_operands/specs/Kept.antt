@@ -4,8 +4,7 @@ use Rattle.std.specs.Prelude.{List, ℕ, ◌+◌, drop}
 use Rattle.program.specs.Prog.{Prog, Res, no_at, run}
 use Rattle.lexer.specs.Reads.{Budget, At, Goal}
 use Rattle.lexer.specs.declared.Cursor.{Cursor}
-use Rattle.lexer.specs.declared.Parsed.{Parsed}
-use Rattle.lexer.specs.declared.Parsed.TheVariants.{Ok, Refused}
+use Rattle.lexer.specs.Parsed.{Parsed, Ok, Refused}
 
 -- The program goes on there as f of some list and of what stands behind low; as many words as `weight` has of that list are paid for.
 pub data Keeps {A : Type 0} (b : Budget) (f : List ℕ → List ℕ → Prog A) (weight : List ℕ → ℕ) (text : List ℕ) (p0 : Parsed) (k : ℕ) (low : List ℕ) : Res A → Parsed → List ℕ → Type 0 where

@@ -2,8 +2,7 @@
 -- Assumes nothing.
 use Rattle.std.specs.Prelude.{List, ℕ, ◌+◌, ◌*◌, ◌≤◌, ◌<◌, length}
 use Rattle.lexer.specs.Reads.{Budget, Goal}
-use Rattle.lexer.specs.declared.Parsed.{Parsed}
-use Rattle.lexer.specs.declared.Parsed.TheVariants.{Ok, Refused}
+use Rattle.lexer.specs.Parsed.{Parsed, Ok, Err}
 
 -- Each byte pays for six words, and as many as a text has at three a byte may stand beside those.
 pub record Rich (b : Budget) (text : List ℕ) : Type 0 where
@@ -17,6 +16,6 @@ richly text g = record { ends = λ b k low r p words. Rich b text → g.ends b k
 -- the place of q with the words of p; a refusal of q goes first
 abbrev pub resumed : Parsed → Parsed → Parsed
 resumed (Ok c) (Ok b) = Ok (record { at = b.at; w = c.w })
-resumed (Ok c) (Refused e q) = Refused e q
-resumed (Refused e q) (Ok b) = Refused e q
-resumed (Refused e q) (Refused f x) = Refused f x
+resumed (Ok c) (Err r) = Err r
+resumed (Err r) (Ok b) = Err r
+resumed (Err r) (Err r2) = Err r2

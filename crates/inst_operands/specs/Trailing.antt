@@ -7,7 +7,7 @@ use Rattle.program.specs.Prog.{Prog}
 use Rattle.grammar.specs.Lexer.{refuse}
 use Rattle.grammar.specs.Instructions.{Clauses, clauses, clauses_in}
 use Rattle.lexer.specs.Reads.{Gives, Comes}
-use Rattle.lexer.specs.declared.Parsed.{Parsed}
+use Rattle.lexer.specs.Parsed.{Parsed}
 
 -- An alignment as the code has it, and as its words: 0 is none.
 unfoldable pub align_of : ℕ → ℕ → List ℕ

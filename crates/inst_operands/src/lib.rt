@@ -6,7 +6,6 @@ ghost use Rattle.std.specs.Prelude.{◌≡◌, List, [], ◌∷◌, ℕ};
 ghost use Rattle.program.specs.Prog.{ret};
 ghost use Rattle.records.specs.Limits.{depth_limit};
 ghost use Rattle.grammar.specs.Instructions.{label_node, parse_trailing, ending, target, parse_operand};
-ghost use Rattle.lexer.specs.Table.{Classes};
 ghost use Rattle.lexer.specs.Reads.{Leads, Gives, made, same, Reads};
 ghost use Rattle.inst_operands.specs.Trailing.{align_of, TrailStep};
 ghost use Rattle.inst_operands.specs.Rich.{resumed};
@@ -36,18 +35,17 @@ pub struct Turn {
 }
 
 // `, align N` or `, !metadata`, or none, behind the alignment so far.
-fn trail_step(classes: &[u8; 256], text: &[u8], p: Parsed, has: u8, v: u64) -> Turn
-    requires { Classes classes.now }
+fn trail_step(text: &[u8], p: Parsed, has: u8, v: u64) -> Turn
     ensures { TrailStep text.now p (align_of has v) result.p (align_of result.has result.v) result.more }
 {
-    let q = lexer::eat_ws(classes, text, p);
+    let q = lexer::eat_ws(text, p);
     if lexer::looks(text, q, b',') {
         let q1 = lexer::pass(text, q, 1);
-        let q2 = lexer::eat_ws(classes, text, q1);
-        if lexer::word(classes, text, q2, b"align") {
+        let q2 = lexer::eat_ws(text, q1);
+        if lexer::word(text, q2, b"align") {
             let q3 = lexer::pass_word(text, q2, b"align");
-            let q4 = lexer::eat_ws(classes, text, q3);
-            let n = number_counts::parse_int(classes, text, q4, 0, records::NUMBER_LIMIT);
+            let q4 = lexer::eat_ws(text, q3);
+            let n = number_counts::parse_int(text, q4, 0, records::NUMBER_LIMIT);
             let q5 = n.p;
             return Turn {
                 p: q5,
@@ -58,7 +56,7 @@ fn trail_step(classes: &[u8; 256], text: &[u8], p: Parsed, has: u8, v: u64) -> T
         }
         if lexer::looks(text, q2, b'!') {
             let q6 = lexer::pass(text, q2, 1);
-            let q7 = lexer_names::skip_metadata_ref(classes, text, q6);
+            let q7 = lexer_names::skip_metadata_ref(text, q6);
             return Turn {
                 p: q7,
                 has,
@@ -83,22 +81,18 @@ fn trail_step(classes: &[u8; 256], text: &[u8], p: Parsed, has: u8, v: u64) -> T
 }
 
 // `, align N` and `, !metadata`, as many as stand there (`parse_trailing`).
-pub fn parse_trailing(classes: &[u8; 256], text: &[u8], p: Parsed) -> Trail
-    requires { Classes classes.now }
+pub fn parse_trailing(text: &[u8], p: Parsed) -> Trail
     ensures { Gives parse_trailing (align_of result.has result.v) text.now p result.p }
 {
     let mut q = p;
     let mut has: u8 = 0;
     let mut v: u64 = 0;
-    let mut left: usize = records::TURNS;
-    while 0 < left {
-        let s = trail_step(classes, text, q, has, v);
+    for _left in (0..records::TURNS).rev() {
+        let s = trail_step(text, q, has, v);
         q = s.p;
         has = s.has;
         v = s.v;
-        if s.more {
-            left -= 1;
-        } else {
+        if !s.more {
             return Trail { p: q, has, v };
         }
     }
@@ -107,7 +101,6 @@ pub fn parse_trailing(classes: &[u8; 256], text: &[u8], p: Parsed) -> Trail
 
 // The end of an instruction that was begun at p0: what trails is passed, the header written.
 pub fn end(
-    classes: &[u8; 256],
     text: &[u8],
     words: &mut [u64],
     p0: Parsed,
@@ -116,32 +109,29 @@ pub fn end(
     d: u8,
     n: u16,
 ) -> Parsed
-    requires { Classes classes.now }
     ensures { (body : List ℕ) → Leads (ending kind d n body) 0 (0 ∷ body) (made same text.now p0) text.now p0 p words.old result words.new }
 {
-    let t = parse_trailing(classes, text, p);
+    let t = parse_trailing(text, p);
     let q = t.p;
     node_words::close(words, p0, q, kind, d, n)
 }
 
 // A typed value whose type is dropped: its words are written over.
-pub fn parse_operand(classes: &[u8; 256], text: &[u8], words: &mut [u64], p: Parsed) -> Parsed
-    requires { Classes classes.now }
+pub fn parse_operand(text: &[u8], words: &mut [u64], p: Parsed) -> Parsed
     ensures { Reads parse_operand text.now p words.old result words.new }
 {
-    let q = types::parse_type(classes, text, words, p, records::DEPTH_LIMIT);
+    let q = types::parse_type(text, words, p, records::DEPTH_LIMIT);
     let q1 = node_words::join(p, q);
-    values::parse_value(classes, text, words, q1, records::DEPTH_LIMIT)
+    values::parse_value(text, words, q1, records::DEPTH_LIMIT)
 }
 
 // `, label %name`, as the name's word.
-pub fn target(classes: &[u8; 256], text: &[u8], p: Parsed) -> Num
-    requires { Classes classes.now }
+pub fn target(text: &[u8], p: Parsed) -> Num
     ensures { Gives target result.v text.now p result.p }
 {
-    let q = lexer::expect_token(classes, text, p, b',');
-    let q1 = lexer::expect_keyword(classes, text, q, b"label");
-    lexer_names::parse_local_name(classes, text, q1)
+    let q = lexer::expect_token(text, p, b',');
+    let q1 = lexer::expect_keyword(text, q, b"label");
+    lexer_names::parse_local_name(text, q1)
 }
 
 // The node of a label. Its header is a constant: kind 63, two words.
@@ -169,28 +159,25 @@ pub fn resume(p: Parsed, q: Parsed) -> Parsed
 }
 
 // A type, not written.
-pub fn pass_type(classes: &[u8; 256], text: &[u8], p: Parsed) -> Parsed
-    requires { Classes classes.now }
+pub fn pass_type(text: &[u8], p: Parsed) -> Parsed
     ensures { Dry (parse_type depth_limit) (typed (list_of depth_limit) text.now p) text.now p result }
 {
     let mut none: [u64; 0] = [];
-    types::parse_type(classes, text, &mut none, p, records::DEPTH_LIMIT)
+    types::parse_type(text, &mut none, p, records::DEPTH_LIMIT)
 }
 
 // A typed value whose type is dropped, not written.
-pub fn pass_operand(classes: &[u8; 256], text: &[u8], p: Parsed) -> Parsed
-    requires { Classes classes.now }
+pub fn pass_operand(text: &[u8], p: Parsed) -> Parsed
     ensures { Dry parse_operand (made same text.now p) text.now p result }
 {
     let mut none: [u64; 0] = [];
-    parse_operand(classes, text, &mut none, p)
+    parse_operand(text, &mut none, p)
 }
 
 // A typed value, not written.
-pub fn pass_typed_val(classes: &[u8; 256], text: &[u8], p: Parsed) -> Parsed
-    requires { Classes classes.now }
+pub fn pass_typed_val(text: &[u8], p: Parsed) -> Parsed
     ensures { Dry (parse_typed_val depth_limit) (made same text.now p) text.now p result }
 {
     let mut none: [u64; 0] = [];
-    values::parse_typed_val(classes, text, &mut none, p, records::DEPTH_LIMIT)
+    values::parse_typed_val(text, &mut none, p, records::DEPTH_LIMIT)
 }

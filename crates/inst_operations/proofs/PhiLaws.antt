@@ -14,8 +14,7 @@ use Rattle.grammar.specs.Values.{parse_value}
 use Rattle.grammar.specs.Instructions.{label_node, phi_items}
 use Rattle.lexer.specs.Step.{looks_p, passed, refused, counted_p}
 use Rattle.lexer.specs.Reads.{Leads, Goal, made, same, reach, Gives}
-use Rattle.lexer.specs.declared.Parsed.{Parsed}
-use Rattle.lexer.specs.declared.Parsed.TheVariants.{Refused}
+use Rattle.lexer.specs.Parsed.{Parsed, Refused}
 use Rattle.lexer.proofs.Laws.{done, stay, then, val, val_paid, token_yes, token_no, fail_is, more, no_more, wrote}
 use Rattle.lexer.proofs.Children.{child_is, g_child, counted_hands, in_room}
 use Rattle.lexer_names.proofs.Passed.{passes_token}

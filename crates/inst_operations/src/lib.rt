@@ -5,7 +5,6 @@
 
 ghost use Rattle.std.specs.Prelude.{◌≡◌, [], ◌∷◌, ℕ};
 ghost use Rattle.grammar.specs.Instructions.{two_operands, binary, unary, parse_bin, parse_fbin, parse_fneg, parse_icmp, parse_fcmp, parse_select, parse_freeze, icmp_preds, fcmp_preds, predicate, parse_conv, phi_items, parse_phi};
-ghost use Rattle.lexer.specs.Table.{Classes};
 ghost use Rattle.lexer.specs.Reads.{Leads, Reads, made, same, Gives};
 ghost use Rattle.program.specs.Bytes.{bytes};
 ghost use Rattle.grammar.specs.Lexer.{skip_keyword};
@@ -17,97 +16,56 @@ use lexer_keywords::Ranked;
 use types::Listed;
 
 // T V, V
-fn two_operands(classes: &[u8; 256], text: &[u8], words: &mut [u64], p: Parsed) -> Parsed
-    requires { Classes classes.now }
+fn two_operands(text: &[u8], words: &mut [u64], p: Parsed) -> Parsed
     ensures { Reads two_operands text.now p words.old result words.new }
 {
-    let q = types::parse_type(classes, text, words, p, records::DEPTH_LIMIT);
-    let q1 = values::parse_value(classes, text, words, q, records::DEPTH_LIMIT);
-    let q2 = lexer::expect_token(classes, text, q1, b',');
-    values::parse_value(classes, text, words, q2, records::DEPTH_LIMIT)
+    let q = types::parse_type(text, words, p, records::DEPTH_LIMIT);
+    let q1 = values::parse_value(text, words, q, records::DEPTH_LIMIT);
+    let q2 = lexer::expect_token(text, q1, b',');
+    values::parse_value(text, words, q2, records::DEPTH_LIMIT)
 }
 
 // T V, V to the end of an operation or a comparison; the node was begun at p0.
-fn binary(
-    classes: &[u8; 256],
-    text: &[u8],
-    words: &mut [u64],
-    p0: Parsed,
-    p: Parsed,
-    kind: u8,
-    d: u8,
-) -> Parsed
-    requires { Classes classes.now }
+fn binary(text: &[u8], words: &mut [u64], p0: Parsed, p: Parsed, kind: u8, d: u8) -> Parsed
     ensures { (dest : ℕ) → Leads (binary kind d dest) 0 (0 ∷ dest ∷ []) (made same text.now p0) text.now p0 p words.old result words.new }
 {
-    let q = two_operands(classes, text, words, p);
-    inst_operands::end(classes, text, words, p0, q, kind, d, 3)
+    let q = two_operands(text, words, p);
+    inst_operands::end(text, words, p0, q, kind, d, 3)
 }
 
 // T V to the end; the node was begun at p0.
-fn unary(
-    classes: &[u8; 256],
-    text: &[u8],
-    words: &mut [u64],
-    p0: Parsed,
-    p: Parsed,
-    kind: u8,
-) -> Parsed
-    requires { Classes classes.now }
+fn unary(text: &[u8], words: &mut [u64], p0: Parsed, p: Parsed, kind: u8) -> Parsed
     ensures { (dest : ℕ) → Leads (unary kind dest) 0 (0 ∷ dest ∷ []) (made same text.now p0) text.now p0 p words.old result words.new }
 {
-    let q = values::parse_typed_val(classes, text, words, p, records::DEPTH_LIMIT);
-    inst_operands::end(classes, text, words, p0, q, kind, records::D_NONE, 2)
+    let q = values::parse_typed_val(text, words, p, records::DEPTH_LIMIT);
+    inst_operands::end(text, words, p0, q, kind, records::D_NONE, 2)
 }
 
 // `add T V, V` and its like.
-pub fn parse_bin(
-    classes: &[u8; 256],
-    text: &[u8],
-    words: &mut [u64],
-    p: Parsed,
-    op: u8,
-    dest: u64,
-) -> Parsed
-    requires { Classes classes.now }
+pub fn parse_bin(text: &[u8], words: &mut [u64], p: Parsed, op: u8, dest: u64) -> Parsed
     ensures { Leads (parse_bin op dest) 2 [] (made same text.now p) text.now p p words.old result words.new }
 {
     let q = node_words::begin(words, p, dest);
-    let q1 = attributes::skip_arith_flags(classes, text, q);
-    binary(classes, text, words, p, q1, records::K_BIN, op)
+    let q1 = attributes::skip_arith_flags(text, q);
+    binary(text, words, p, q1, records::K_BIN, op)
 }
 
 // `fadd T V, V` and its like.
-pub fn parse_fbin(
-    classes: &[u8; 256],
-    text: &[u8],
-    words: &mut [u64],
-    p: Parsed,
-    op: u8,
-    dest: u64,
-) -> Parsed
-    requires { Classes classes.now }
+pub fn parse_fbin(text: &[u8], words: &mut [u64], p: Parsed, op: u8, dest: u64) -> Parsed
     ensures { Leads (parse_fbin op dest) 2 [] (made same text.now p) text.now p p words.old result words.new }
 {
     let q = node_words::begin(words, p, dest);
-    let q1 = attributes::skip_fast_math_flags(classes, text, q);
-    binary(classes, text, words, p, q1, records::K_FBIN, op)
+    let q1 = attributes::skip_fast_math_flags(text, q);
+    binary(text, words, p, q1, records::K_FBIN, op)
 }
 
 // `fneg T V`
-pub fn parse_fneg(
-    classes: &[u8; 256],
-    text: &[u8],
-    words: &mut [u64],
-    p: Parsed,
-    dest: u64,
-) -> Parsed
-    requires { Classes classes.now }
+pub fn parse_fneg(text: &[u8], words: &mut [u64], p: Parsed, dest: u64) -> Parsed
     ensures { Leads (parse_fneg dest) 2 [] (made same text.now p) text.now p p words.old result words.new }
 {
     let q = node_words::begin(words, p, dest);
-    let q1 = attributes::skip_fast_math_flags(classes, text, q);
-    unary(classes, text, words, p, q1, records::K_FNEG)
+    let q1 = attributes::skip_fast_math_flags(text, q);
+    unary(text, words, p, q1, records::K_FNEG)
 }
 
 // A predicate, as its rank.
@@ -117,28 +75,24 @@ pub struct Pred {
     pub r: u8,
 }
 
+static FCMP_PREDICATES: [&[u8]; 16] = [
+    b"false", b"oeq", b"ogt", b"oge", b"olt", b"ole", b"one", b"ord", b"ueq", b"ugt", b"uge",
+    b"ult", b"ule", b"une", b"uno", b"true",
+];
+
 // A predicate of `fcmp`, in ast.rs order.
-fn fcmp_rank(classes: &[u8; 256], text: &[u8], p: Parsed) -> Ranked
-    requires { Classes classes.now }
+fn fcmp_rank(text: &[u8], p: Parsed) -> Ranked
     ensures { (result.r ≡ rank_p fcmp_preds text.now p) × (result.p ≡ ranked_p fcmp_preds text.now p) }
 {
-    let lens: [u8; 16] = [5, 3, 3, 3, 3, 3, 3, 3, 3, 3, 3, 3, 3, 3, 3, 4];
-    lexer_keywords::match_rank(
-        classes,
-        text,
-        p,
-        &lens,
-        b"falseoeqogtogeoltoleoneorduequgtugeultuleuneunotrue",
-    )
+    lexer_keywords::match_rank(text, p, &FCMP_PREDICATES)
 }
 
 // `parse_fcmp_pred`
-pub fn parse_fcmp_pred(classes: &[u8; 256], text: &[u8], p: Parsed) -> Pred
-    requires { Classes classes.now }
+pub fn parse_fcmp_pred(text: &[u8], p: Parsed) -> Pred
     ensures { Gives (predicate fcmp_preds) result.r text.now p result.p }
 {
-    let q = lexer::eat_ws(classes, text, p);
-    let k = fcmp_rank(classes, text, q);
+    let q = lexer::eat_ws(text, p);
+    let k = fcmp_rank(text, q);
     let r = k.r;
     let q1 = k.p;
     if r < 16 {
@@ -149,62 +103,48 @@ pub fn parse_fcmp_pred(classes: &[u8; 256], text: &[u8], p: Parsed) -> Pred
 }
 
 // `fcmp P T V, V`
-pub fn parse_fcmp(
-    classes: &[u8; 256],
-    text: &[u8],
-    words: &mut [u64],
-    p: Parsed,
-    dest: u64,
-) -> Parsed
-    requires { Classes classes.now }
+pub fn parse_fcmp(text: &[u8], words: &mut [u64], p: Parsed, dest: u64) -> Parsed
     ensures { Leads (parse_fcmp dest) 2 [] (made same text.now p) text.now p p words.old result words.new }
 {
     let q = node_words::begin(words, p, dest);
-    let q1 = attributes::skip_fast_math_flags(classes, text, q);
-    let k = parse_fcmp_pred(classes, text, q1);
+    let q1 = attributes::skip_fast_math_flags(text, q);
+    let k = parse_fcmp_pred(text, q1);
     let q2 = k.p;
-    binary(classes, text, words, p, q2, records::K_FCMP, k.r)
+    binary(text, words, p, q2, records::K_FCMP, k.r)
 }
 
 // `trunc T V to T` and its like. At a `(` the next statement would refuse.
-pub fn parse_conv(
-    classes: &[u8; 256],
-    text: &[u8],
-    words: &mut [u64],
-    p: Parsed,
-    op: u8,
-    dest: u64,
-) -> Parsed
-    requires { Classes classes.now }
+pub fn parse_conv(text: &[u8], words: &mut [u64], p: Parsed, op: u8, dest: u64) -> Parsed
     ensures { Leads (parse_conv op dest) 2 [] (made same text.now p) text.now p p words.old result words.new }
 {
     let q = node_words::begin(words, p, dest);
-    let q1 = attributes::skip_conv_flags(classes, text, q);
-    let q2 = values::parse_typed_val(classes, text, words, q1, records::DEPTH_LIMIT);
-    let q3 = lexer::expect_keyword(classes, text, q2, b"to");
-    let q4 = types::parse_type(classes, text, words, q3, records::DEPTH_LIMIT);
+    let q1 = attributes::skip_conv_flags(text, q);
+    let q2 = values::parse_typed_val(text, words, q1, records::DEPTH_LIMIT);
+    let q3 = lexer::expect_keyword(text, q2, b"to");
+    let q4 = types::parse_type(text, words, q3, records::DEPTH_LIMIT);
     if lexer::looks(text, q4, b'(') {
         return lexer::refuse(q4, records::Q_STATEMENT);
     }
-    inst_operands::end(classes, text, words, p, q4, records::K_CONV, op, 3)
+    inst_operands::end(text, words, p, q4, records::K_CONV, op, 3)
 }
 
+static ICMP_PREDICATES: [&[u8]; 10] = [
+    b"eq", b"ne", b"ugt", b"uge", b"ult", b"ule", b"sgt", b"sge", b"slt", b"sle",
+];
+
 // A predicate of `icmp`, in ast.rs order.
-fn icmp_rank(classes: &[u8; 256], text: &[u8], p: Parsed) -> Ranked
-    requires { Classes classes.now }
+fn icmp_rank(text: &[u8], p: Parsed) -> Ranked
     ensures { (result.r ≡ rank_p icmp_preds text.now p) × (result.p ≡ ranked_p icmp_preds text.now p) }
 {
-    let lens: [u8; 10] = [2, 2, 3, 3, 3, 3, 3, 3, 3, 3];
-    lexer_keywords::match_rank(classes, text, p, &lens, b"eqneugtugeultulesgtsgesltsle")
+    lexer_keywords::match_rank(text, p, &ICMP_PREDICATES)
 }
 
 // `parse_icmp_pred`
-pub fn parse_icmp_pred(classes: &[u8; 256], text: &[u8], p: Parsed) -> Pred
-    requires { Classes classes.now }
+pub fn parse_icmp_pred(text: &[u8], p: Parsed) -> Pred
     ensures { Gives (predicate icmp_preds) result.r text.now p result.p }
 {
-    let q = lexer::eat_ws(classes, text, p);
-    let k = icmp_rank(classes, text, q);
+    let q = lexer::eat_ws(text, p);
+    let k = icmp_rank(text, q);
     let r = k.r;
     let q1 = k.p;
     if r < 10 {
@@ -215,84 +155,57 @@ pub fn parse_icmp_pred(classes: &[u8; 256], text: &[u8], p: Parsed) -> Pred
 }
 
 // `samesign`, if it stands there.
-pub fn skip_samesign(classes: &[u8; 256], text: &[u8], p: Parsed) -> Parsed
-    requires { Classes classes.now }
+pub fn skip_samesign(text: &[u8], p: Parsed) -> Parsed
     ensures { Gives (skip_keyword (bytes "samesign")) tt text.now p result }
 {
-    lexer::skip_keyword(classes, text, p, b"samesign")
+    lexer::skip_keyword(text, p, b"samesign")
 }
 
 // `icmp P T V, V`
-pub fn parse_icmp(
-    classes: &[u8; 256],
-    text: &[u8],
-    words: &mut [u64],
-    p: Parsed,
-    dest: u64,
-) -> Parsed
-    requires { Classes classes.now }
+pub fn parse_icmp(text: &[u8], words: &mut [u64], p: Parsed, dest: u64) -> Parsed
     ensures { Leads (parse_icmp dest) 2 [] (made same text.now p) text.now p p words.old result words.new }
 {
     let q = node_words::begin(words, p, dest);
-    let q1 = skip_samesign(classes, text, q);
-    let k = parse_icmp_pred(classes, text, q1);
+    let q1 = skip_samesign(text, q);
+    let k = parse_icmp_pred(text, q1);
     let q2 = k.p;
-    binary(classes, text, words, p, q2, records::K_ICMP, k.r)
+    binary(text, words, p, q2, records::K_ICMP, k.r)
 }
 
 // `select T V, T V, T V`
-pub fn parse_select(
-    classes: &[u8; 256],
-    text: &[u8],
-    words: &mut [u64],
-    p: Parsed,
-    dest: u64,
-) -> Parsed
-    requires { Classes classes.now }
+pub fn parse_select(text: &[u8], words: &mut [u64], p: Parsed, dest: u64) -> Parsed
     ensures { Leads (parse_select dest) 2 [] (made same text.now p) text.now p p words.old result words.new }
 {
     let q = node_words::begin(words, p, dest);
-    let q1 = inst_operands::parse_operand(classes, text, words, q);
-    let q2 = lexer::expect_token(classes, text, q1, b',');
-    let q3 = values::parse_typed_val(classes, text, words, q2, records::DEPTH_LIMIT);
-    let q4 = lexer::expect_token(classes, text, q3, b',');
-    let q5 = inst_operands::parse_operand(classes, text, words, q4);
-    inst_operands::end(
-        classes,
-        text,
-        words,
-        p,
-        q5,
-        records::K_SELECT,
-        records::D_NONE,
-        4,
-    )
+    let q1 = inst_operands::parse_operand(text, words, q);
+    let q2 = lexer::expect_token(text, q1, b',');
+    let q3 = values::parse_typed_val(text, words, q2, records::DEPTH_LIMIT);
+    let q4 = lexer::expect_token(text, q3, b',');
+    let q5 = inst_operands::parse_operand(text, words, q4);
+    inst_operands::end(text, words, p, q5, records::K_SELECT, records::D_NONE, 4)
 }
 
 // `[V, L]` behind commas, each two children behind the type.
-fn phi_items(classes: &[u8; 256], text: &[u8], words: &mut [u64], p: Parsed) -> Listed
-    requires { Classes classes.now }
+fn phi_items(text: &[u8], words: &mut [u64], p: Parsed) -> Listed
     ensures { Leads (phi_items 65536 1 []) 0 [] (made (listed result.n 0) text.now p) text.now p p words.old result.p words.new }
 {
     let mut q = p;
-    let mut left: usize = records::LIST_TURNS;
     let mut n: u16 = 1;
-    while 0 < left {
-        q = lexer::expect_token(classes, text, q, b'[');
-        q = values::parse_value(classes, text, words, q, records::DEPTH_LIMIT);
+    for _left in (0..records::LIST_TURNS).rev() {
+        q = lexer::expect_token(text, q, b'[');
+        q = values::parse_value(text, words, q, records::DEPTH_LIMIT);
         q = lexer::count_child(q, n);
         let k = types::one_more(n);
-        q = lexer::expect_token(classes, text, q, b',');
-        let l = lexer_names::parse_local_name(classes, text, q);
+        q = lexer::expect_token(text, q, b',');
+        let l = lexer_names::parse_local_name(text, q);
         q = l.p;
         q = lexer::count_child(q, k);
         n = types::one_more(k);
-        q = lexer::expect_token(classes, text, q, b']');
+        q = lexer::expect_token(text, q, b']');
         q = inst_operands::label_node(words, q, l.v);
-        q = lexer::eat_ws(classes, text, q);
+        q = lexer::eat_ws(text, q);
         if lexer::looks(text, q, b',') {
             q = lexer::pass(text, q, 1);
-            left -= 1;
         } else {
             return Listed { p: q, n, dots: 0 };
         }
@@ -302,34 +215,20 @@ fn phi_items(classes: &[u8; 256], text: &[u8], words: &mut [u64], p: Parsed) -> 
 }
 
 // `phi T [V, L], ..`
-pub fn parse_phi(
-    classes: &[u8; 256],
-    text: &[u8],
-    words: &mut [u64],
-    p: Parsed,
-    dest: u64,
-) -> Parsed
-    requires { Classes classes.now }
+pub fn parse_phi(text: &[u8], words: &mut [u64], p: Parsed, dest: u64) -> Parsed
     ensures { Leads (parse_phi dest) 2 [] (made same text.now p) text.now p p words.old result words.new }
 {
     let q = node_words::begin(words, p, dest);
-    let q1 = types::parse_type(classes, text, words, q, records::DEPTH_LIMIT);
-    let l = phi_items(classes, text, words, q1);
+    let q1 = types::parse_type(text, words, q, records::DEPTH_LIMIT);
+    let l = phi_items(text, words, q1);
     let q2 = l.p;
     node_words::close(words, p, q2, records::K_PHI, records::D_NONE, l.n)
 }
 
 // `freeze T V`
-pub fn parse_freeze(
-    classes: &[u8; 256],
-    text: &[u8],
-    words: &mut [u64],
-    p: Parsed,
-    dest: u64,
-) -> Parsed
-    requires { Classes classes.now }
+pub fn parse_freeze(text: &[u8], words: &mut [u64], p: Parsed, dest: u64) -> Parsed
     ensures { Leads (parse_freeze dest) 2 [] (made same text.now p) text.now p p words.old result words.new }
 {
     let q = node_words::begin(words, p, dest);
-    unary(classes, text, words, p, q, records::K_FREEZE)
+    unary(text, words, p, q, records::K_FREEZE)
 }

@@ -19,8 +19,7 @@ use Rattle.node_words.specs.Writes.{joined, pushed, pushes, closes, patches, res
 use Rattle.lexer.specs.Step.{looks_p, passed, refused, counted_p}
 use Rattle.lexer.specs.Reads.{Budget, At, Ends, at, out, Leads, Goal, made, same, Inside, Gave, got, not, Gives}
 use Rattle.lexer.specs.declared.Cursor.{Cursor}
-use Rattle.lexer.specs.declared.Parsed.{Parsed}
-use Rattle.lexer.specs.declared.Parsed.TheVariants.{Ok, Refused}
+use Rattle.lexer.specs.Parsed.{Parsed, Ok, Refused, Err}
 use Rattle.lexer.proofs.Laws.{no_ok, true_false, after, bind_at, at_less, more, no_more, Passes, val, val_paid, token_yes, token_no, spare, fail_is, write_then}
 use Rattle.node_words.proofs.Laws.{push_then, patch_then, close_is}
 use Rattle.lexer.proofs.Children.{g_child, in_room}
@@ -118,7 +117,7 @@ label_long labels l = length-append labels (label_node l)
 -- where the reader is refused, any program is
 stops_at : {A : Type 0} {f : Prog A} {E : Goal A} {c : ℕ} {mid text : List ℕ} {p0 : Parsed} {w : List ℕ} (p : Parsed) → stopped_p p ≡ true → Leads f c mid E text p0 p w p w
 stops_at (Ok x) e = true_false e
-stops_at (Refused n x) e = record { runs = λ o low k cur t a. no_ok cur n x (sym t); hands = λ m y t. t }
+stops_at (Err r) e = record { runs = λ o low k cur t a. no_ok cur r.question r.place (sym t); hands = λ m y t. t }
 
 stops : {A : Type 0} {f : Prog A} {E : Goal A} {c : ℕ} {mid text : List ℕ} {p0 p : Parsed} {w : List ℕ} {r : Bool} → r ≡ stopped_p p → r ≡ true → Leads f c mid E text p0 p w p w
 stops {A} {f} {E} {c} {mid} {text} {p0} {p} e t = stops_at p (sym e ∙ t)

@@ -2,7 +2,6 @@
 ghost use Rattle.std.specs.Prelude.{◌≡◌, [], ◌∷◌, length};
 ghost use Rattle.program.specs.Prog.{ret};
 ghost use Rattle.grammar.specs.Instructions.{case_int, cases, switch_cases, parse_switch};
-ghost use Rattle.lexer.specs.Table.{Classes};
 ghost use Rattle.lexer.specs.Reads.{Leads, Gives, made, same};
 ghost use Rattle.inst_operands.specs.Rich.{richly};
 ghost use Rattle.inst_operands.specs.Kept.{kept, nothing};
@@ -40,13 +39,12 @@ struct Case {
 }
 
 // A case's integer: the value is read into an array of its own.
-fn case_int(classes: &[u8; 256], text: &[u8], p: Parsed) -> Case
-    requires { Classes classes.now }
+fn case_int(text: &[u8], p: Parsed) -> Case
     ensures { Gives case_int (result.hi ∷ result.lo ∷ []) text.now p result.p }
 {
     let mut value: [u64; 3] = [0, 0, 0];
     let q = node_words::restart(p);
-    let q1 = inst_operands::parse_operand(classes, text, &mut value, q);
+    let q1 = inst_operands::parse_operand(text, &mut value, q);
     let h = taken(&value, q1, 0);
     let hi = taken(&value, q1, 1);
     let lo = taken(&value, q1, 2);
@@ -76,22 +74,20 @@ struct Cases {
 }
 
 // The cases through the `]`, their integers written.
-fn switch_ints(classes: &[u8; 256], text: &[u8], words: &mut [u64], p: Parsed) -> Cases
-    requires { Classes classes.now }
+fn switch_ints(text: &[u8], words: &mut [u64], p: Parsed) -> Cases
     ensures { Leads (switch_cases 65536 3 [] []) 0 [] (kept (λ labels ints. ret (cases result.n ints labels)) length text.now p) text.now p p words.old result.p words.new }
 {
     let mut q = p;
-    let mut left: usize = records::LIST_TURNS;
     let mut n: u16 = SWITCH_FRONT;
-    while 0 < left {
-        q = lexer::eat_ws(classes, text, q);
+    for _left in (0..records::LIST_TURNS).rev() {
+        q = lexer::eat_ws(text, q);
         if lexer::looks(text, q, b']') {
             q = lexer::pass(text, q, 1);
             return Cases { p: q, n };
         }
-        let c = case_int(classes, text, q);
+        let c = case_int(text, q);
         q = c.p;
-        let t = inst_operands::target(classes, text, q);
+        let t = inst_operands::target(text, q);
         q = t.p;
         q = lexer::count_child(q, n);
         if stopped(q) {
@@ -99,7 +95,6 @@ fn switch_ints(classes: &[u8; 256], text: &[u8], words: &mut [u64], p: Parsed) -
         }
         q = node_words::push(words, q, c.hi);
         q = node_words::push(words, q, c.lo);
-        left -= 1;
         n = types::one_more(n);
     }
     q = lexer::refuse(q, records::Q_CHILDREN);
@@ -107,29 +102,26 @@ fn switch_ints(classes: &[u8; 256], text: &[u8], words: &mut [u64], p: Parsed) -
 }
 
 // The cases through the `]`, their labels written.
-fn switch_labels(classes: &[u8; 256], text: &[u8], words: &mut [u64], p: Parsed) -> Cases
-    requires { Classes classes.now }
+fn switch_labels(text: &[u8], words: &mut [u64], p: Parsed) -> Cases
     ensures { Leads (switch_cases 65536 3 [] []) 0 [] (kept (λ ints labels. ret (cases result.n ints labels)) nothing text.now p) text.now p p words.old result.p words.new }
 {
     let mut q = p;
-    let mut left: usize = records::LIST_TURNS;
     let mut n: u16 = SWITCH_FRONT;
-    while 0 < left {
-        q = lexer::eat_ws(classes, text, q);
+    for _left in (0..records::LIST_TURNS).rev() {
+        q = lexer::eat_ws(text, q);
         if lexer::looks(text, q, b']') {
             q = lexer::pass(text, q, 1);
             return Cases { p: q, n };
         }
-        let c = case_int(classes, text, q);
+        let c = case_int(text, q);
         q = c.p;
-        let t = inst_operands::target(classes, text, q);
+        let t = inst_operands::target(text, q);
         q = t.p;
         q = lexer::count_child(q, n);
         if stopped(q) {
             return Cases { p: q, n };
         }
         q = inst_operands::label_node(words, q, t.v);
-        left -= 1;
         n = types::one_more(n);
     }
     q = lexer::refuse(q, records::Q_CHILDREN);
@@ -137,27 +129,26 @@ fn switch_labels(classes: &[u8; 256], text: &[u8], words: &mut [u64], p: Parsed)
 }
 
 // `switch T V, label %d [ T V, label %a .. ]`. The word before the integers is left open until the cases are counted.
-pub fn parse_switch(classes: &[u8; 256], text: &[u8], words: &mut [u64], p: Parsed) -> Parsed
-    requires { Classes classes.now }
+pub fn parse_switch(text: &[u8], words: &mut [u64], p: Parsed) -> Parsed
     ensures { Leads parse_switch 3 [] (richly text.now (made same text.now p)) text.now p p words.old result words.new }
 {
     let p1 = node_words::push(words, p, 0);
     let p2 = node_words::push(words, p1, 0);
-    let q = inst_operands::pass_typed_val(classes, text, p2);
+    let q = inst_operands::pass_typed_val(text, p2);
     let q1 = node_words::join(p2, q);
-    let d = inst_operands::target(classes, text, q1);
+    let d = inst_operands::target(text, q1);
     let q2 = d.p;
-    let p3 = lexer::expect_token(classes, text, q2, b'[');
-    let c = switch_ints(classes, text, words, p3);
+    let p3 = lexer::expect_token(text, q2, b'[');
+    let c = switch_ints(text, words, p3);
     let q3 = c.p;
-    let t = inst_operands::parse_trailing(classes, text, q3);
+    let t = inst_operands::parse_trailing(text, q3);
     let q4 = t.p;
     let z = inst_operands::resume(q4, p2);
-    let z1 = values::parse_typed_val(classes, text, words, z, records::DEPTH_LIMIT);
+    let z1 = values::parse_typed_val(text, words, z, records::DEPTH_LIMIT);
     let q5 = inst_operands::resume(z1, q4);
     let q6 = inst_operands::label_node(words, q5, d.v);
     let z2 = inst_operands::resume(q6, p3);
-    let l = switch_labels(classes, text, words, z2);
+    let l = switch_labels(text, words, z2);
     let z3 = l.p;
     let q7 = inst_operands::resume(z3, q6);
     let count = lexer::minus(c.n as usize, SWITCH_FRONT as usize);

@@ -16,8 +16,7 @@ use Rattle.grammar.specs.Types.{Listed, room, child, comma_or}
 use Rattle.lexer.specs.Step.{counted_p, refused}
 use Rattle.lexer.specs.Reads.{Leads, Goal, made, Gives, Comes, Counts}
 use Rattle.lexer.specs.declared.Cursor.{Cursor}
-use Rattle.lexer.specs.declared.Parsed.{Parsed}
-use Rattle.lexer.specs.declared.Parsed.TheVariants.{Ok, Refused}
+use Rattle.lexer.specs.Parsed.{Parsed, Ok, Err, Refused}
 use Rattle.lexer.proofs.Laws.{no_ok, done, then, val_on, fail_is, g_done, g_fail, g_then}
 
 -- ---- a program in two parts, then the rest
@@ -72,7 +71,7 @@ counted_ok n p cur x o = go (ltb n 65535) refl p (sym x ∙ o)
     go : (b : Bool) → ltb n 65535 ≡ b → (p : Parsed) → pick b p (refused 19 p) ≡ Ok cur → n < 65535
     go true t p e = ltb-true _ _ t
     go false t (Ok c) e = absurd (let z : ◌≡◌ {A = ℕ} 0 1 = cc in omega arith)
-    go false t (Refused a b) e = absurd (let z : ◌≡◌ {A = ℕ} 0 1 = cc in omega arith)
+    go false t (Err r) e = absurd (let z : ◌≡◌ {A = ℕ} 0 1 = cc in omega arith)
 
 pub counted_hands : (n : ℕ) (p : Parsed) {q : Parsed} {e i : ℕ} → q ≡ counted_p n p → p ≡ Refused e i → q ≡ Refused e i
 counted_hands n p {q} {e} {i} x h = go (ltb n 65535) x
@@ -95,7 +94,7 @@ two_counted n k m p q p1 {q1} x e hd x1 e1 cur o = go q refl
   where
     go : (z : Parsed) → q ≡ z → m ≡ n + 2
     go (Ok c) t = omega (arith, e (counted_ok n p c x t), e1 (counted_ok k p1 cur x1 o))
-    go (Refused a b) t = no_ok cur a b (sym o ∙ counted_hands k p1 x1 (hd a b t))
+    go (Err r) t = no_ok cur r.question r.place (sym o ∙ counted_hands k p1 x1 (hd r.question r.place t))
 
 -- ---- behind an element
 module _ (end : ℕ) {text : List ℕ} {q q3 : Parsed} {b : Bool} (cm : (x y : Prog Listed) → Comes (comma_or end x y) (pick b x y) text q q3) {c : ℕ} {mid : List ℕ} {E : Goal Listed} {p0 p' : Parsed} {w w' : List ℕ} where

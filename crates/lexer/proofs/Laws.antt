@@ -20,8 +20,8 @@ use Rattle.grammar.specs.Lexer.{eat_ws, refuse, place, is_byte, byte_if, byte_at
 use Rattle.lexer.specs.Step.{bumped, looks_p, word_p, passed, refused, refused_at, place_p}
 use Rattle.lexer.specs.Reads.{Stands, Budget, At, Ends, at, out, Leads, Goal, made, reach, Reached, there, gone as is-gone, same, Inside, Aim, Finds, Gave, got, not, Gives, Came, on, off, Comes}
 use Rattle.lexer.specs.declared.Cursor.{Cursor}
-use Rattle.lexer.specs.declared.Parsed.{Parsed}
-use Rattle.lexer.specs.declared.Parsed.TheVariants.{Ok, Refused}
+use Rattle.records.specs.declared.Refusal.{Refusal}
+use Rattle.lexer.specs.Parsed.{Parsed, Ok, Err, Refused}
 use Rattle.program.specs.Lists.{drop_next}
 
 -- ---- one program after another, in the whole text
@@ -42,10 +42,10 @@ bind_at {A} {B} f h text i = run_bind f h i (drop i text) ∙ go (run f i (drop 
     go (closed ws j) e = refl
     go (no_at q p) e = refl
 
-pub no_ok : {A : Type 0} (c : Cursor) (e q : ℕ) → Ok c ≡ Refused e q → A
+pub no_ok : {A : Type 0} (c : Cursor) (e q : ℕ) → ◌≡◌ {A = Parsed} (Ok c) (Refused e q) → A
 no_ok c e q h = absurd (let z : ◌≡◌ {A = ℕ} 0 1 = cc in omega arith)
 
-ok_same : (c d : Cursor) → Ok c ≡ Ok d → d ≡ c
+ok_same : (c d : Cursor) → ◌≡◌ {A = Parsed} (Ok c) (Ok d) → d ≡ c
 ok_same c d e = cc
 
 pub true_false : {A : Type 0} → ◌≡◌ {A = Bool} false true → A
@@ -316,6 +316,13 @@ fail_is {A} e {E = E} {text = text} {p0 = p0} {q = q} {w' = w'} h = record {
   hands = λ n y t. h ∙ ap (refused e) t;
 }
 
+-- a refusal is handed on, whatever would be read
+pub handed_on : {A : Type 0} {f : Prog A} {c : ℕ} {mid : List ℕ} {E : Goal A} {text : List ℕ} {p0 p q : Parsed} {w w' : List ℕ} {r : Refusal} → p ≡ Err r → q ≡ Err r → Leads f c mid E text p0 p w q w'
+handed_on {r = r} h k = record {
+  runs = λ b low n cur t a. no_ok cur r.question r.place (sym t ∙ h);
+  hands = λ e x t. k ∙ (sym h ∙ t);
+}
+
 -- ---- readers that write nothing
 module _ {A : Type 0} {f : Prog A} {a : A} {text : List ℕ} where
   -- from the run itself: it ends at j, or refuses
@@ -342,6 +349,13 @@ module _ {A : Type 0} {f : Prog A} {a : A} {text : List ℕ} where
 
   pub kept : (n y : ℕ) → Gives f a text (Refused n y) (Refused n y)
   kept n y = record { runs = λ c t i. no_ok c n y (sym t); hands = λ e q t. t }
+
+-- a refusal is handed on, whatever would be read
+pub handed : {A : Type 0} {f : Prog A} {E : Aim A} {text : List ℕ} {p q : Parsed} {r : Refusal} → p ≡ Err r → q ≡ Err r → Finds f E text p q
+handed {r = r} h k = record {
+  runs = λ cur t i. no_ok cur r.question r.place (sym t ∙ h);
+  hands = λ e x t. k ∙ (sym h ∙ t);
+}
 
 -- the result is here
 pub g_done : {A : Type 0} {a : A} {text : List ℕ} {p : Parsed} → Gives (ret a) a text p p

@@ -1,20 +1,23 @@
 -- What the lexer's definitions say at a place of a text: the text from i on is its byte at i and the text from i + 1 on (`drop_next`).
 -- Assumes nothing.
-use mathlib.Core.Path.{◌≡◌, refl, sym, ap, ◌∙◌}
+use mathlib.Core.Path.{◌≡◌, refl, sym, ap, ◌∙◌, subst}
 use mathlib.Core.List.{List, [], ◌∷◌}
 use mathlib.Core.Bool.{Bool, true, false, ◌&&◌}
 use mathlib.Core.Option.{Option, none, some}
 use Prim.Native.Nat.{ℕ, ◌+◌, ◌-◌, ◌≤◌, ◌<◌}
 use native.Mathlib.Nat.{add-zero}
 use native.Mathlib.Omega.{arith}
-use lib.ListN.{length, get_or, drop, drop_of_length-le}
+use lib.ListN.{length, get_or, drop, length-drop, drop_of_length-le}
+use Rattle.std.proofs.Math.Nat.{le-max_left, le-max_right, max-le}
+use Rattle.program.specs.Local.{scan_len_le}
 use lib.Dec.{ltb, leb, eqb}
 use borrow.Author.Tests.{eq-eqb, ne_eqb, lt-ltb, le-ltb, le-leb, lt-leb, leb-true, leb-false, ltb-true, ltb-false, eqb-true}
 use Rattle.program.specs.Lists.{drop_next}
 use Rattle.program.specs.Class.{class_of, is_word, is_space}
 use Rattle.program.specs.Prog.{byte_at, lead_word, scan_len}
 use Rattle.grammar.specs.Lexer.{is_byte, same_word, state_of, space_step}
-use Rattle.lexer.specs.Step.{step_code, taken, StopAt}
+use Rattle.std.specs.Prelude.{Some, None, max}
+use Rattle.lexer.specs.Step.{step_of, taken, StopAt}
 
 pub byte_in : (s : List ℕ) (i b : ℕ) → b < 256 → i < length s → is_byte b (byte_at (drop i s)) ≡ eqb (get_or s i 0) b
 unfolding is_byte byte_at
@@ -26,36 +29,18 @@ byte_out s i b k h =
     let n : (256 ≡ b → ⊥) = λ e. omega arith in
     rw (drop_of_length-le s h, lt-ltb _ _ k, ne_eqb _ _ n)
 
--- an automaton's steps, whose code is r
+-- an automaton's steps
 pub scan_out : (f : ℕ → ℕ → Option ℕ) (s : List ℕ) (i q : ℕ) → length s ≤ i → i + scan_len f q (drop i s) ≡ i
 unfolding scan_len
 scan_out f s i q h = rw (drop_of_length-le s h) (add-zero i)
 
-pub stops : (o : Option ℕ) → step_code o ≡ 0 → o ≡ none
-stops none e = refl
-stops (some q) e = absurd (omega arith)
-
-pub goes : (o : Option ℕ) (r : ℕ) → r ≡ step_code o → (r ≡ 0 → ⊥) → o ≡ some (r - 1)
-goes none r e n = absurd (n e)
-goes (some q) r e n =
-    let z : r - 1 ≡ q = omega arith in
-    rw z
-
-pub scan_stop : (f : ℕ → ℕ → Option ℕ) (s : List ℕ) (i q : ℕ) → i < length s → step_code (f q (get_or s i 0)) ≡ 0 → i + scan_len f q (drop i s) ≡ i
+pub scan_stop : (f : ℕ → ℕ → Option ℕ) (s : List ℕ) (i q : ℕ) → i < length s → f q (get_or s i 0) ≡ none → i + scan_len f q (drop i s) ≡ i
 unfolding scan_len
-scan_stop f s i q h e =
-    let z : f q (get_or s i 0) ≡ none = stops _ e in
-    rw (drop_next s i h, scan_len, z) (add-zero i)
+scan_stop f s i q h z = rw (drop_next s i h, scan_len, z) (omega arith)
 
 pub scan_some : (f : ℕ → ℕ → Option ℕ) (s : List ℕ) (i q r : ℕ) → i < length s → f q (get_or s i 0) ≡ some r → i + scan_len f q (drop i s) ≡ i + 1 + scan_len f r (drop (i + 1) s)
 unfolding scan_len
 scan_some f s i q r h z = rw (drop_next s i h, scan_len, z) (omega arith)
-
-pub scan_more : (f : ℕ → ℕ → Option ℕ) (s : List ℕ) (i q r : ℕ) → i < length s → r ≡ step_code (f q (get_or s i 0)) → (r ≡ 0 → ⊥) → i + scan_len f q (drop i s) ≡ i + 1 + scan_len f (r - 1) (drop (i + 1) s)
-unfolding scan_len
-scan_more f s i q r h e n =
-    let z : f q (get_or s i 0) ≡ some (r - 1) = goes _ r e n in
-    rw (drop_next s i h, scan_len, z) (omega arith)
 
 -- keywords: r is the class of the byte at i
 pub wordy : (x r : ℕ) → r ≡ class_of x → r ≤ 16 → is_word x ≡ true
@@ -92,9 +77,15 @@ module _ (k s : List ℕ) (j i : ℕ) (hj : j < length k) where
         let z : is_word (get_or s i 0) ≡ true = wordy _ r e h in
         rw (drop_next k j hj, drop_next s i hi, lead_word, z, eq-eqb _ _ q)
 
+-- past the end of the text there is no word
+pub no_word : (s k : List ℕ) (i : ℕ) → length s ≤ i → same_word (lead_word (drop i s)) k ≡ eqb (length k) 0
+unfolding same_word lead_word
+no_word s [] i h = rw (drop_of_length-le s h) refl
+no_word s (x ∷ k) i h = rw (drop_of_length-le s h) (sym (ne_eqb _ _ (λ e. omega arith)))
+
 -- behind the keyword
 module _ (k s : List ℕ) (j i : ℕ) (hj : length k ≤ j) where
-  pub word_end_in : (r : ℕ) → i < length s → r ≡ class_of (get_or s i 0) → same_word (lead_word (drop i s)) (drop j k) ≡ ltb 16 r
+  word_end_in : (r : ℕ) → i < length s → r ≡ class_of (get_or s i 0) → same_word (lead_word (drop i s)) (drop j k) ≡ ltb 16 r
   unfolding is_word lead_word same_word
   word_end_in r hi e = rw (drop_of_length-le k hj, drop_next s i hi, e) (go (leb (class_of (get_or s i 0)) 16) (class_of (get_or s i 0)) refl)
     where
@@ -102,9 +93,28 @@ module _ (k s : List ℕ) (j i : ℕ) (hj : length k ≤ j) where
       go true c t = sym (le-ltb 16 c (leb-true c 16 t))
       go false c t = sym (lt-ltb 16 c (leb-false c 16 t))
 
-  pub word_end_out : length s ≤ i → same_word (lead_word (drop i s)) (drop j k) ≡ true
+  word_end_out : length s ≤ i → same_word (lead_word (drop i s)) (drop j k) ≡ true
   unfolding same_word lead_word
   word_end_out hi = rw (drop_of_length-le k hj, drop_of_length-le s hi)
+
+-- where a loop over the places from `at` on ends, which an automaton has passed from there
+pub end_at : (f : ℕ → ℕ → Option ℕ) (q : ℕ) (s : List ℕ) {at i m : ℕ} → at ≤ i → length s ≤ i → m ≡ max at (length s) → at + scan_len f q (drop at s) ≡ i → m ≡ i
+end_at f q s {at} {i} {m} l h e g =
+    let a : at ≤ max at (length s) = le-max_left at (length s) in
+    let b : length s ≤ max at (length s) = le-max_right at (length s) in
+    let c : max at (length s) ≤ i = max-le l h in
+    omega (arith, scan_len_le f q (drop at s), length-drop at s)
+
+module _ (k s : List ℕ) (j at : ℕ) (l : length k ≤ j) (m : j ≤ length k) where
+  -- behind the keyword, where the loop over it has ended
+  all_read : j ≡ length k
+  all_read = omega arith
+
+  pub word_ended_in : (r : ℕ) → at + length k < length s → r ≡ class_of (get_or s (at + length k) 0) → same_word (lead_word (drop (at + j) s)) (drop j k) ≡ ltb 16 r
+  word_ended_in r h e = rw all_read (word_end_in k s (length k) (at + length k) (omega arith) r h e)
+
+  pub word_ended_out : length s ≤ at + length k → same_word (lead_word (drop (at + j) s)) (drop j k) ≡ true
+  word_ended_out h = rw all_read (word_end_out k s (length k) (at + length k) (omega arith) h)
 
 -- an automaton and the state in which it stops
 pub record Going (f : ℕ → ℕ → Option ℕ) (text : List ℕ) (at i q : ℕ) : Type 0 where
@@ -128,16 +138,16 @@ module _ (f : ℕ → ℕ → Option ℕ) (text : List ℕ) (at : ℕ) where
     unfolding scan_len state_of
     taken_out h = rw (drop_of_length-le text h)
 
-    pub going_more : (r : ℕ) → i < length text → r ≡ step_code (f q (get_or text i 0)) → (r ≡ 0 → ⊥) → Going f text at i q → Going f text at (i + 1) (r - 1)
-    going_more r h e n g = record {
-      place = g.place ∙ scan_more f text i q r h e n;
-      state = g.state ∙ taken_more (r - 1) h (goes _ r e n);
+    pub going_more : (r : ℕ) → i < length text → f q (get_or text i 0) ≡ some r → Going f text at i q → Going f text at (i + 1) r
+    going_more r h z g = record {
+      place = g.place ∙ scan_some f text i q r h z;
+      state = g.state ∙ taken_more r h z;
     }
 
-    pub going_stop : i < length text → step_code (f q (get_or text i 0)) ≡ 0 → Going f text at i q → StopAt f text at (record { at = i; q = q })
-    going_stop h e g = record {
-      place = sym (g.place ∙ scan_stop f text i q h e);
-      state = sym (g.state ∙ taken_stop h (stops _ e));
+    pub going_stop : i < length text → f q (get_or text i 0) ≡ none → Going f text at i q → StopAt f text at (record { at = i; q = q })
+    going_stop h z g = record {
+      place = sym (g.place ∙ scan_stop f text i q h z);
+      state = sym (g.state ∙ taken_stop h z);
     }
 
     pub going_out : length text ≤ i → Going f text at i q → StopAt f text at (record { at = i; q = q })
@@ -145,6 +155,19 @@ module _ (f : ℕ → ℕ → Option ℕ) (text : List ℕ) (at : ℕ) where
       place = sym (g.place ∙ scan_out f text i q h);
       state = sym (g.state ∙ taken_out h);
     }
+
+    -- the same, as a loop over the places has it at its end
+    pub going_past : {m : ℕ} → at ≤ i → length text ≤ i → m ≡ max at (length text) → Going f text at i q → StopAt f text at (record { at = m; q = q })
+    going_past {m} l h e g =
+        let d : m ≡ i = end_at f 0 text l h e (g.place ∙ scan_out f text i q h) in
+        rw d (going_out h g)
+
+-- a step of the code, as the automaton's
+pub passed_none : {o : Option ℕ} → step_of None ≡ o → o ≡ none
+passed_none e = sym e
+
+pub passed_some : {o : Option ℕ} {q : ℕ} → step_of (Some q) ≡ o → o ≡ some q
+passed_some e = sym e
 
 -- a byte that is there is inside the text
 pub byte_inside : (s : List ℕ) (i b : ℕ) → is_byte b (byte_at (drop i s)) ≡ true → i < length s

@@ -15,8 +15,7 @@ use Rattle.grammar.specs.Values.{prefix_if, digit_if}
 use Rattle.lexer.specs.Step.{looks_p, passed}
 use Rattle.lexer.specs.Reads.{Leads, Goal}
 use Rattle.lexer.specs.declared.Cursor.{Cursor}
-use Rattle.lexer.specs.declared.Parsed.{Parsed}
-use Rattle.lexer.specs.declared.Parsed.TheVariants.{Ok, Refused}
+use Rattle.lexer.specs.Parsed.{Parsed, Ok, Err, Refused}
 use Rattle.program.specs.Lists.{drop_next}
 use Rattle.lexer.proofs.Scan.{wordy, wordless}
 use Rattle.lexer.proofs.Laws.{moved, run_eat_n, true_false, byte_no}
@@ -51,6 +50,11 @@ module _ (k s : List ℕ) (j i : ℕ) (hj : j < length k) where
     start_more r e h q =
         let z : is_word (get_or s i 0) ≡ true = wordy _ r e h in
         rw (drop_next k j hj, drop_next s i hi, lead_word, z, eq-eqb _ _ (sym q))
+
+pub start_out : (k s : List ℕ) (i : ℕ) → length s ≤ i → starts_with k (lead_word (drop i s)) ≡ eqb (length k) 0
+unfolding starts_with lead_word
+start_out [] s i h = refl
+start_out (x ∷ k) s i h = rw (drop_of_length-le s h) (sym (ne_eqb _ _ (λ e. omega arith)))
 
 pub start_end : (k w : List ℕ) (j : ℕ) → length k ≤ j → starts_with (drop j k) w ≡ true
 unfolding starts_with
@@ -137,7 +141,7 @@ off false h = refl
 
 digit_other : (b : ℕ) → is_digit b ≡ false → (text : List ℕ) (p : Parsed) → digit_p text p ≡ true → looks_p text p b ≡ false
 digit_other b n text (Ok c) h = off _ (λ z. let o : is_digit b ≡ true = rw (is_byte_lem b (byte_at (drop c.at text)) z) at h in true_false (sym n ∙ o))
-digit_other b n text (Refused e q) h = refl
+digit_other b n text (Err r) h = refl
 
 -- what is no byte of a name is none of these
 pub name_other : (b x : ℕ) → is_name b ≡ true → is_name x ≡ false → is_byte b x ≡ false
@@ -145,7 +149,7 @@ name_other b x n h = off _ (λ z. true_false (sym (rw (is_byte_lem b x z) at h) 
 
 byte_other : (a b : ℕ) → is_byte b a ≡ false → (text : List ℕ) (p : Parsed) → looks_p text p a ≡ true → looks_p text p b ≡ false
 byte_other a b n text (Ok c) h = rw (is_byte_lem a (byte_at (drop c.at text)) h) n
-byte_other a b n text (Refused e q) h = refl
+byte_other a b n text (Err r) h = refl
 
 module _ {A : Type 0} {mid : List ℕ} {E : Goal A} {text : List ℕ} {p0 : Parsed} {p' : Parsed} {w w' : List ℕ} {c : ℕ} {p : Parsed} {g : Prog A} (b : ℕ) (f : Prog A) where
   -- a digit is no such byte

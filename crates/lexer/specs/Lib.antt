@@ -1,3 +1,4 @@
+pub mod Parsed
 pub mod Table
 pub mod Step
 pub mod Reads

@@ -4,8 +4,7 @@ use Rattle.std.specs.Prelude.{◌≡◌, List, [], ◌++◌, ℕ, ◌+◌, ◌*�
 use Rattle.std.proofs.Common.{arith}
 use Rattle.program.specs.Prog.{Prog, Res, ok, no_at, run}
 use Rattle.lexer.specs.declared.Cursor.{Cursor}
-use Rattle.lexer.specs.declared.Parsed.{Parsed}
-use Rattle.lexer.specs.declared.Parsed.TheVariants.{Ok, Refused}
+use Rattle.lexer.specs.Parsed.{Parsed, Ok, Refused}
 
 -- The list stands in front of the words, as far as these reach.
 pub record Stands (l words : List ℕ) : Type 0 where

@@ -1,26 +1,26 @@
 // The lexer (lexer.rs, and the small lexical helpers of parser.rs): a text under a cursor, and words that are written behind it.
 //
-// A reader takes the answer so far, `Parsed`, and hands a refusal on, so that its body is a straight line of calls, as the Rust's with `?`.
-// The table of classes is made once, by `classes`, and lent to every reader as its first parameter.
+// A reader takes the answer so far, `Parsed`, and hands a refusal on with `?`, so that a body above these is a straight line of calls.
 #![tactic(auto)]
 
 pub mod limits; // limits.rt: the classes of bytes by name
 pub mod lists; // lists.rt: what lists share
 pub mod tests; // tests.rt: the beginning of a word, and a digit
 
-ghost use Rattle.std.specs.Prelude.{◌≡◌, ◌+◌, ◌-◌, length, drop};
+ghost use Rattle.std.specs.Prelude.{◌≡◌, ℕ, ◌+◌, ◌-◌, length, drop};
+ghost use Rattle.std.proofs.Math.Option.{Option};
 ghost use Rattle.program.specs.Class.{class_of};
 ghost use Rattle.program.specs.Prog.{scan_len, lead_word, byte_at};
 ghost use Rattle.grammar.specs.Lexer.{space_step, is_byte, same_word, eat_ws, expect_token, expect_keyword, skip_keyword};
-ghost use Rattle.lexer.specs.Table.{Classes};
-ghost use Rattle.lexer.specs.Step.{step_code, bumped, looks_p, word_p, passed, refused, refused_at, place_p};
+ghost use Rattle.lexer.specs.Step.{step_of, Steps, StopAt, bumped, looks_p, word_p, passed, refused, refused_at, place_p};
 ghost use Rattle.lexer.specs.Reads.{Gives};
 
 pub use lists::{comma_or, count_child};
+use records::Refusal;
 
 // The class of each byte: below HEX a hexadecimal digit and its value, WORD any other letter or `_`, NAME one of `.` `-` `$`, SPACE white space,
 // OTHER any other.
-pub const CLASSES: [u8; 256] = [
+static CLASSES: [u8; 256] = [
     19, 19, 19, 19, 19, 19, 19, 19, 19, 18, 18, 19, 18, 18, 19, 19, 19, 19, 19, 19, 19, 19, 19, 19,
     19, 19, 19, 19, 19, 19, 19, 19, 18, 19, 19, 19, 17, 19, 19, 19, 19, 19, 19, 19, 19, 17, 17, 19,
     0, 1, 2, 3, 4, 5, 6, 7, 8, 9, 19, 19, 19, 19, 19, 19, 19, 10, 11, 12, 13, 14, 15, 16, 16, 16,
@@ -34,19 +34,11 @@ pub const CLASSES: [u8; 256] = [
     19, 19, 19, 19, 19, 19, 19, 19, 19, 19, 19, 19, 19, 19,
 ];
 
-// The table, made once in a reading: where it is used directly it is built anew at each use.
-pub fn classes() -> [u8; 256]
-    ensures { Classes result }
-{
-    CLASSES
-}
-
 // The class of b.
-pub fn class(classes: &[u8; 256], b: u8) -> u8
-    requires { Classes classes.now }
+pub fn class(b: u8) -> u8
     ensures { result ≡ class_of b }
 {
-    classes[b as usize]
+    CLASSES[b as usize]
 }
 
 // Where the reader stands: the place in the text and the next word.
@@ -56,12 +48,8 @@ pub struct Cursor {
     pub w: usize,
 }
 
-// How far the reader came, or the number and the place of a refusal.
-#[derive(Clone, Copy)]
-pub enum Parsed {
-    Ok(Cursor),
-    Refused(u64, usize),
-}
+// How far the reader came, or a refusal.
+pub type Parsed = Result<Cursor, Refusal>;
 
 // An answer with a number: a value, or a name's word.
 #[derive(Clone, Copy)]
@@ -81,7 +69,7 @@ pub struct Stop {
 pub fn minus(to: usize, from: usize) -> usize
     ensures { result ≡ to - from }
 {
-    if from <= to { to - from } else { 0 }
+    to.saturating_sub(from)
 }
 
 // One more, up to 2^32.
@@ -91,113 +79,99 @@ pub fn bump(w: usize) -> usize
     if w < records::HALF_LIMIT { w + 1 } else { w }
 }
 
-// White space and comments: 0 stop, else one more than the state behind b, which is 1 inside a comment.
-fn space_step(classes: &[u8; 256], q: u8, b: u8) -> u8
-    requires { Classes classes.now }
-    ensures { result ≡ step_code (space_step q b) }
+// White space and comments: the state behind b, which is 1 inside a comment, or none where they end.
+fn space_step(q: u8, b: u8) -> Option<u8>
+    ensures { step_of result ≡ space_step q b }
 {
-    if q == 0 {
-        if b == b';' {
-            return 2;
-        }
-        if class(classes, b) == limits::SPACE {
-            return 1;
-        }
-        return 0;
+    if q != 0 {
+        return if b == b'\n' { Some(0) } else { Some(1) };
     }
-    if b == b'\n' {
-        return 1;
+    if b == b';' {
+        return Some(1);
     }
-    2
+    if class(b) == limits::SPACE {
+        Some(0)
+    } else {
+        None
+    }
 }
 
-// The place behind the comments and white space that stand at `at`.
-fn comment_end(classes: &[u8; 256], text: &[u8], at: usize) -> usize
-    requires { Classes classes.now }
-    ensures { result ≡ at + scan_len space_step 0 (drop at text.now) }
+// Where an automaton stops that begins at a place in state 0.
+pub fn scan_text<F: Fn(u8, u8) -> Option<u8>>(text: &[u8], at: usize, step: F) -> Stop
+    requires { F.IsAlwaysCallable step }
+    ensures { (f : ℕ → ℕ → Option ℕ) → Steps F.post step f → StopAt f text.now at result }
 {
-    let mut i = at;
-    let mut q: u8 = 0;
-    while i < text.len() {
-        let s = space_step(classes, q, text[i]);
-        if s == 0 {
-            return i;
+    let mut q = 0;
+    for i in at..text.len() {
+        match step(q, text[i]) {
+            Some(next) => q = next,
+            None => return Stop { at: i, q },
         }
-        q = s - 1;
-        i += 1;
     }
-    i
+    Stop {
+        at: at.max(text.len()),
+        q,
+    }
 }
 
-// The same. Nearly always it is white space alone, which needs no state.
-fn space_end(classes: &[u8; 256], text: &[u8], at: usize) -> usize
-    requires { Classes classes.now }
+// The place behind the comments and white space that stand at `at`. Nearly always it is white space alone, which needs no state.
+fn space_end(text: &[u8], at: usize) -> usize
     ensures { result ≡ at + scan_len space_step 0 (drop at text.now) }
 {
-    let mut i = at;
-    while i < text.len() {
+    for i in at..text.len() {
         let b = text[i];
-        if class(classes, b) != limits::SPACE {
+        if class(b) != limits::SPACE {
             if b == b';' {
-                return comment_end(classes, text, i);
+                return scan_text(text, i, space_step).at;
             }
             return i;
         }
-        i += 1;
     }
-    i
+    at.max(text.len())
 }
 
 // Is b the byte at `at`?
 pub fn at_byte(text: &[u8], at: usize, b: u8) -> bool
     ensures { result ≡ is_byte b (byte_at (drop at text.now)) }
 {
-    if at < text.len() {
-        text[at] == b
-    } else {
-        false
+    match text.get(at) {
+        Some(x) => *x == b,
+        None => false,
     }
 }
 
 // Does the keyword kw stand at `at`? A byte that differs is seen before its class is asked for.
-fn at_word(classes: &[u8; 256], text: &[u8], at: usize, kw: &[u8]) -> bool
-    requires { Classes classes.now }
+fn at_word(text: &[u8], at: usize, kw: &[u8]) -> bool
     ensures { result ≡ same_word (lead_word (drop at text.now)) kw.now }
 {
-    let mut i = at;
-    let mut j = 0;
-    while j < kw.len() {
-        if text.len() <= i {
-            return false;
-        }
-        if text[i] != kw[j] {
-            return false;
-        }
-        if limits::WORD < class(classes, text[i]) {
-            return false;
-        }
-        i += 1;
-        j += 1;
+    if text.len() < at {
+        return kw.is_empty();
     }
-    if i < text.len() {
-        return limits::WORD < class(classes, text[i]);
+    for j in 0..kw.len() {
+        if text.len() - at <= j {
+            return false;
+        }
+        let b = text[at + j];
+        if b != kw[j] {
+            return false;
+        }
+        if limits::WORD < class(b) {
+            return false;
+        }
     }
-    true
+    match text.get(at + kw.len()) {
+        Some(b) => limits::WORD < class(*b),
+        None => true,
+    }
 }
 
 // Behind white space and comments (`eat_ws`).
-pub fn eat_ws(classes: &[u8; 256], text: &[u8], p: Parsed) -> Parsed
-    requires { Classes classes.now }
+pub fn eat_ws(text: &[u8], p: Parsed) -> Parsed
     ensures { Gives eat_ws tt text.now p result }
 {
-    match p {
-        Parsed::Ok(c) => {
-            let at = c.at;
-            let i = space_end(classes, text, at);
-            Parsed::Ok(Cursor { at: i, w: c.w })
-        }
-        Parsed::Refused(e, q) => Parsed::Refused(e, q),
-    }
+    let c = p?;
+    let at = space_end(text, c.at);
+    Ok(Cursor { at, w: c.w })
 }
 
 // Is b the next byte? (`peek_ch`, `match_char`)
@@ -205,25 +179,18 @@ pub fn looks(text: &[u8], p: Parsed, b: u8) -> bool
     ensures { result ≡ looks_p text.now p b }
 {
     match p {
-        Parsed::Ok(c) => {
-            let at = c.at;
-            at_byte(text, at, b)
-        }
-        Parsed::Refused(e, q) => false,
+        Ok(c) => at_byte(text, c.at, b),
+        Err(_) => false,
     }
 }
 
 // Is kw the next word? (`match_keyword`, behind white space)
-pub fn word(classes: &[u8; 256], text: &[u8], p: Parsed, kw: &[u8]) -> bool
-    requires { Classes classes.now }
+pub fn word(text: &[u8], p: Parsed, kw: &[u8]) -> bool
     ensures { result ≡ word_p text.now p kw.now }
 {
     match p {
-        Parsed::Ok(c) => {
-            let at = c.at;
-            at_word(classes, text, at, kw)
-        }
-        Parsed::Refused(e, q) => false,
+        Ok(c) => at_word(text, c.at, kw),
+        Err(_) => false,
     }
 }
 
@@ -231,21 +198,16 @@ pub fn word(classes: &[u8; 256], text: &[u8], p: Parsed, kw: &[u8]) -> bool
 pub fn pass(text: &[u8], p: Parsed, m: usize) -> Parsed
     ensures { result ≡ passed text.now m p }
 {
-    match p {
-        Parsed::Ok(c) => {
-            let at = c.at;
-            if at <= text.len() {
-                if m <= text.len() - at {
-                    Parsed::Ok(Cursor { at: at + m, w: c.w })
-                } else {
-                    Parsed::Ok(c)
-                }
-            } else {
-                Parsed::Ok(c)
-            }
+    let c = p?;
+    if c.at <= text.len() {
+        if m <= text.len() - c.at {
+            return Ok(Cursor {
+                at: c.at + m,
+                w: c.w,
+            });
         }
-        Parsed::Refused(e, q) => Parsed::Refused(e, q),
     }
+    Ok(c)
 }
 
 // Behind the keyword kw, which stands there.
@@ -259,30 +221,27 @@ pub fn pass_word(text: &[u8], p: Parsed, kw: &[u8]) -> Parsed
 pub fn refuse(p: Parsed, e: u64) -> Parsed
     ensures { result ≡ refused e p }
 {
-    match p {
-        Parsed::Ok(c) => Parsed::Refused(e, c.at),
-        Parsed::Refused(e2, q) => Parsed::Refused(e2, q),
-    }
+    let c = p?;
+    refuse_at(p, e, c.at)
 }
 
 // A refusal at a place before the cursor.
 pub fn refuse_at(p: Parsed, e: u64, at: usize) -> Parsed
     ensures { result ≡ refused_at e at p }
 {
-    match p {
-        Parsed::Ok(c) => Parsed::Refused(e, at),
-        Parsed::Refused(e2, q) => Parsed::Refused(e2, q),
-    }
+    let _ = p?;
+    Err(Refusal {
+        question: e,
+        place: at,
+    })
 }
 
 // The same answer, made anew: a copy takes the unused bytes of its memory along, which costs more than the rest.
 pub fn anew(p: Parsed) -> Parsed
     ensures { result ≡ p }
 {
-    match p {
-        Parsed::Ok(c) => Parsed::Ok(Cursor { at: c.at, w: c.w }),
-        Parsed::Refused(e, q) => Parsed::Refused(e, q),
-    }
+    let c = p?;
+    Ok(Cursor { at: c.at, w: c.w })
 }
 
 // The place of the cursor.
@@ -290,17 +249,16 @@ pub fn place(p: Parsed) -> usize
     ensures { result ≡ place_p p }
 {
     match p {
-        Parsed::Ok(c) => c.at,
-        Parsed::Refused(e, q) => 0,
+        Ok(c) => c.at,
+        Err(_) => 0,
     }
 }
 
 // White space, and the byte b (`expect_token`).
-pub fn expect_token(classes: &[u8; 256], text: &[u8], p: Parsed, b: u8) -> Parsed
-    requires { Classes classes.now }
+pub fn expect_token(text: &[u8], p: Parsed, b: u8) -> Parsed
     ensures { Gives (expect_token b) tt text.now p result }
 {
-    let q = eat_ws(classes, text, p);
+    let q = eat_ws(text, p);
     if looks(text, q, b) {
         return pass(text, q, 1);
     }
@@ -308,24 +266,22 @@ pub fn expect_token(classes: &[u8; 256], text: &[u8], p: Parsed, b: u8) -> Parse
 }
 
 // White space, and the keyword kw (`expect_keyword`).
-pub fn expect_keyword(classes: &[u8; 256], text: &[u8], p: Parsed, kw: &[u8]) -> Parsed
-    requires { Classes classes.now }
+pub fn expect_keyword(text: &[u8], p: Parsed, kw: &[u8]) -> Parsed
     ensures { Gives (expect_keyword kw.now) tt text.now p result }
 {
-    let q = eat_ws(classes, text, p);
-    if word(classes, text, q, kw) {
+    let q = eat_ws(text, p);
+    if word(text, q, kw) {
         return pass_word(text, q, kw);
     }
     refuse(q, records::Q_TOKEN)
 }
 
 // White space, and the keyword kw, if it stands there.
-pub fn skip_keyword(classes: &[u8; 256], text: &[u8], p: Parsed, kw: &[u8]) -> Parsed
-    requires { Classes classes.now }
+pub fn skip_keyword(text: &[u8], p: Parsed, kw: &[u8]) -> Parsed
     ensures { Gives (skip_keyword kw.now) tt text.now p result }
 {
-    let q = eat_ws(classes, text, p);
-    if word(classes, text, q, kw) {
+    let q = eat_ws(text, p);
+    if word(text, q, kw) {
         return pass_word(text, q, kw);
     }
     q

@@ -3,7 +3,6 @@ ghost use Rattle.std.specs.Prelude.{◌≡◌};
 ghost use Rattle.program.specs.Choice.{pick};
 ghost use Rattle.program.specs.Prog.{Prog};
 ghost use Rattle.grammar.specs.Types.{Listed, comma_or};
-ghost use Rattle.lexer.specs.Table.{Classes};
 ghost use Rattle.lexer.specs.Step.{counted_p};
 ghost use Rattle.lexer.specs.Reads.{Comes};
 
@@ -28,11 +27,10 @@ pub struct Behind {
 }
 
 // White space, then a comma or the closing byte.
-pub fn comma_or(classes: &[u8; 256], text: &[u8], p: Parsed, end: u8) -> Behind
-    requires { Classes classes.now }
+pub fn comma_or(text: &[u8], p: Parsed, end: u8) -> Behind
     ensures { (x y : Prog Listed) → Comes (comma_or end x y) (pick result.more x y) text.now p result.p }
 {
-    let q = eat_ws(classes, text, p);
+    let q = eat_ws(text, p);
     if looks(text, q, b',') {
         let q1 = pass(text, q, 1);
         return Behind { p: q1, more: true };

@@ -7,89 +7,66 @@ use Prim.Native.Nat.{ℕ, suc, ◌+◌, ◌-◌, ◌≤◌, ◌<◌}
 use native.Mathlib.Omega.{arith}
 use native.Mathlib.Nat.{add-zero}
 use lib.Dec.{ltb, leb, eqb, T}
+use lib.Pointwise.{pointwise}
+use Rattle.std.specs.Prelude.{nat_eq, min, max}
+use Rattle.std.proofs.Common.{Bor}
+use Rattle.std.proofs.Math.Nat.{min-eq_left, min-eq_right, le-max_left, le-max_right, max-le}
+use Rattle.std.proofs.lemmas.List.{drop_more}
 use lib.ListN.{length, get_or, take, drop, length-drop, drop_of_length-le}
 use lib.Seq.{drop-drop, take_all, take-length, take-nil, drop-length}
 use borrow.Author.Tests.{eq-eqb, ne_eqb, lt-ltb, le-ltb, leb-true, leb-false, ltb-true, ltb-false}
 use Rattle.program.specs.Class.{class_of, is_word}
 use Rattle.program.specs.Prog.{Prog, Res, run, lead_word}
 use Rattle.grammar.specs.Lexer.{same_word, rank, rank_if, eat_n}
-use Rattle.lexer.specs.Table.{cut, full}
+use Rattle.lexer.specs.Table.{words_of, full}
 use Rattle.lexer.specs.Step.{passed, rank_p, ranked_p}
 use Rattle.lexer.specs.Reads.{Leads, Goal, Inside, Aim, Finds}
 use Rattle.lexer.specs.declared.Cursor.{Cursor}
-use Rattle.lexer.specs.declared.Parsed.{Parsed}
-use Rattle.lexer.specs.declared.Parsed.TheVariants.{Ok, Refused}
+use Rattle.lexer.specs.Parsed.{Parsed, Ok, Refused, Err}
 use Rattle.program.specs.Lists.{drop_next}
 use Rattle.lexer.proofs.Scan.{wordy, wordless}
 use Rattle.lexer.proofs.Laws.{moved, g_moved, run_eat_n, pass_in}
 
--- ---- two words, byte by byte
-pub same_long : (a b : List ℕ) → (length a ≡ length b → ⊥) → same_word a b ≡ false
-unfolding same_word
-same_long [] [] n = absurd (n refl)
-same_long [] (y ∷ b) n = refl
-same_long (x ∷ a) [] n = refl
-same_long (x ∷ a) (y ∷ b) n = go (eqb x y) (same_long a b (λ e. n (ap suc e)))
-  where
-    go : (d : Bool) → same_word a b ≡ false → (d && same_word a b) ≡ false
-    go true h = h
-    go false h = refl
-
-pub same_other : (a b : List ℕ) (i : ℕ) → i < length a → i < length b → (get_or a i 0 ≡ get_or b i 0 → ⊥) → same_word (drop i a) (drop i b) ≡ false
-unfolding same_word
-same_other a b i h k n = rw (drop_next a i h, drop_next b i k, ne_eqb _ _ n)
-
-pub same_more : (a b : List ℕ) (i : ℕ) → i < length a → i < length b → get_or a i 0 ≡ get_or b i 0 → same_word (drop i a) (drop i b) ≡ same_word (drop (i + 1) a) (drop (i + 1) b)
-unfolding same_word
-same_more a b i h k e = rw (drop_next a i h, drop_next b i k, eq-eqb _ _ e)
-
-pub same_end : (a b : List ℕ) (i : ℕ) → length a ≤ i → length b ≤ i → same_word (drop i a) (drop i b) ≡ true
-unfolding same_word
-same_end a b i h k = rw (drop_of_length-le a h, drop_of_length-le b k)
-
 -- ---- the search
-pub cut_length : (lens bytes : List ℕ) → length (cut lens bytes) ≡ length lens
-unfolding cut
-cut_length [] bytes = refl
-cut_length (n ∷ ns) bytes = ap suc (cut_length ns (drop n bytes))
+-- `==` on byte strings
+pub same_bytes : (a b : List ℕ) → pointwise nat_eq a b ≡ same_word a b
+unfolding same_word
+same_bytes [] [] = refl
+same_bytes [] (y ∷ b) = refl
+same_bytes (x ∷ a) [] = refl
+same_bytes (x ∷ a) (y ∷ b) = ap (λ (z : Bool). eqb x y && z) (same_bytes a b)
 
--- as many as there are
-pub take_least : (s : List ℕ) (n m : ℕ) → (n ≤ length s → m ≡ n) → (length s ≤ n → m ≡ length s) → (take m s ≡ take n s) × (drop m s ≡ drop n s)
-take_least s n m f g = go (leb n (length s)) refl
-  where
-    go : (b : Bool) → leb n (length s) ≡ b → (take m s ≡ take n s) × (drop m s ≡ drop n s)
-    go true h = rw (f (leb-true _ _ h)) (refl, refl)
-    go false h =
-        let k : length s ≤ n = omega (arith, leb-false n (length s) h) in
-        rw (g k) (take-length s ∙ sym (take_all n s k), drop-length s ∙ sym (drop_of_length-le s k))
+pub words_length : (table : List (Bor (List ℕ))) → length (words_of table) ≡ length table
+words_length [] = refl
+words_length (x ∷ table) = ap suc (words_length table)
 
 rank_step : (w k : List ℕ) (ks : List (List ℕ)) (b : Bool) → same_word w k ≡ b → rank w (k ∷ ks) ≡ elim b [ true ↦ 0 | false ↦ suc (rank w ks) ]
 unfolding rank
 rank_step w k ks b e = ap {B = ℕ} (λ (z : Bool). elim z [ true ↦ 0 | false ↦ suc (rank w ks) ]) e
 
--- word number k begins at a, and the code takes m bytes of it
-module _ (w lens bytes : List ℕ) (k a m : ℕ) (hk : k < length lens) (ha : a ≤ length bytes) (hn : get_or lens k 0 ≤ length bytes - a → m ≡ get_or lens k 0) (hm : length bytes - a ≤ get_or lens k 0 → m ≡ length bytes - a) where
-  least_at : (take m (drop a bytes) ≡ take (get_or lens k 0) (drop a bytes)) × (drop m (drop a bytes) ≡ drop (get_or lens k 0) (drop a bytes))
-  least_at =
-      let l : length (drop a bytes) ≡ length bytes - a = length-drop a bytes in
-      take_least (drop a bytes) (get_or lens k 0) m (λ h. hn (omega arith)) (λ h. hm (omega arith) ∙ sym l)
+-- word number k, where the code has compared it
+module _ (w : List ℕ) (table : List (Bor (List ℕ))) (k : ℕ) (word : Bor (List ℕ)) (b : Bool) (h : k < length table) (e : b ≡ pointwise nat_eq w (get_or table k word).now) where
+  at_k : (z : Bool) → b ≡ z → rank w (words_of (drop k table)) ≡ elim z [ true ↦ 0 | false ↦ suc (rank w (words_of (drop (k + 1) table))) ]
+  at_k z t = rw (drop_more table k word h) (rank_step w (get_or table k word).now (words_of (drop (k + 1) table)) z (sym (same_bytes w (get_or table k word).now) ∙ sym e ∙ t))
 
-  at_k : cut (drop k lens) (drop a bytes) ≡ take m (drop a bytes) ∷ cut (drop (k + 1) lens) (drop (a + m) bytes)
-  unfolding cut
-  at_k = rw (drop_next lens k hk, ← drop-drop m a bytes, least_at.0, least_at.1)
+  pub rank_hit : b ≡ true → k + rank w (words_of (drop k table)) ≡ k
+  rank_hit t = rw (at_k true t) (add-zero k)
 
-  pub rank_hit : same_word w (take m (drop a bytes)) ≡ true → k + rank w (cut (drop k lens) (drop a bytes)) ≡ k
-  rank_hit e = rw (at_k, rank_step w (take m (drop a bytes)) (cut (drop (k + 1) lens) (drop (a + m) bytes)) true e) (add-zero k)
+  pub rank_miss : b ≡ false → k + rank w (words_of (drop k table)) ≡ k + 1 + rank w (words_of (drop (k + 1) table))
+  rank_miss t = rw (at_k false t) (omega arith)
 
-  pub rank_miss : same_word w (take m (drop a bytes)) ≡ false → k + rank w (cut (drop k lens) (drop a bytes)) ≡ k + 1 + rank w (cut (drop (k + 1) lens) (drop (a + m) bytes))
-  rank_miss e = rw (at_k, rank_step w (take m (drop a bytes)) (cut (drop (k + 1) lens) (drop (a + m) bytes)) false e) (omega arith)
-
-pub rank_out : (w lens bytes : List ℕ) (k : ℕ) → length lens ≤ k → k + rank w (cut (drop k lens) bytes) ≡ k
-unfolding rank cut
-rank_out w lens bytes k h = rw (drop_of_length-le lens h) (add-zero k)
+pub rank_out : (w : List ℕ) (table : List (Bor (List ℕ))) (k : ℕ) → length table ≤ k → k ≤ length table → k + rank w (words_of (drop k table)) ≡ length table
+unfolding rank
+rank_out w table k h l = rw (drop_of_length-le table h) (omega arith)
 
 -- the bytes from a place to another, as far as the text reaches
-module _ (text : List ℕ) (from to end : ℕ) (f : to ≤ length text → end ≡ to) (g : length text ≤ to → end ≡ length text) where
+module _ (text : List ℕ) (from to end : ℕ) (m : end ≡ min to (length text)) where
+  f : to ≤ length text → end ≡ to
+  f h = m ∙ min-eq_left h
+
+  g : length text ≤ to → end ≡ length text
+  g h = m ∙ min-eq_right h
+
   pub part_is : from ≤ end → take (end - from) (drop from text) ≡ take (to - from) (drop from text)
   part_is h = go (leb to (length text)) refl
     where
@@ -98,7 +75,7 @@ module _ (text : List ℕ) (from to end : ℕ) (f : to ≤ length text → end �
       go false e =
           let k : length text < to = leb-false _ _ e in
           let l : length (drop from text) ≡ length text - from = length-drop from text in
-          let m : end ≡ length text = g (omega arith) in
+          let n : end ≡ length text = g (omega arith) in
           take_all (end - from) (drop from text) (omega arith) ∙ sym (take_all (to - from) (drop from text) (omega arith))
 
   pub part_none : end < from → take (to - from) (drop from text) ≡ []
@@ -111,7 +88,7 @@ module _ (text : List ℕ) (from to end : ℕ) (f : to ≤ length text → end �
           rw z
       go false e =
           let k : length text < to = leb-false _ _ e in
-          let m : end ≡ length text = g (omega arith) in
+          let n : end ≡ length text = g (omega arith) in
           let z : length text ≤ from = omega arith in
           rw (drop_of_length-le text z) (take-nil (to - from))
 
@@ -151,21 +128,29 @@ pub lead_out : (s : List ℕ) (i : ℕ) → length s ≤ i → i + length (lead_
 unfolding lead_word
 lead_out s i h = rw (drop_of_length-le s h) (add-zero i)
 
+-- the end of a loop over the places of a word
+pub lead_end : (s : List ℕ) {at i m : ℕ} → at ≤ i → length s ≤ i → m ≡ max at (length s) → at + length (lead_word (drop at s)) ≡ i → m ≡ i
+lead_end s {at} {i} {m} l h e g =
+    let a : at ≤ max at (length s) = le-max_left at (length s) in
+    let b : length s ≤ max at (length s) = le-max_right at (length s) in
+    let c : max at (length s) ≤ i = max-le l h in
+    omega (arith, lead_le (drop at s), length-drop at s)
+
 -- the rank of the next word, which ends at i
-module _ (text lens bytes : List ℕ) (cur : Cursor) (i r : ℕ) (e : i ≡ cur.at + length (lead_word (drop cur.at text))) (h : r ≡ rank (take (i - cur.at) (drop cur.at text)) (cut lens bytes)) where
-  ranks : r ≡ rank (lead_word (drop cur.at text)) (cut lens bytes)
+module _ (text : List ℕ) (table : List (Bor (List ℕ))) (cur : Cursor) (i r : ℕ) (e : i ≡ cur.at + length (lead_word (drop cur.at text))) (h : r ≡ rank (take (i - cur.at) (drop cur.at text)) (words_of table)) where
+  ranks : r ≡ rank (lead_word (drop cur.at text)) (words_of table)
   ranks =
       let z : i - cur.at ≡ length (lead_word (drop cur.at text)) = omega arith in
       h ∙ rw (z, lead_take (drop cur.at text))
 
-  pub ranks_in : r < length lens → (r ≡ rank_p (cut lens bytes) text (Ok cur)) × (Ok (record { at = i; w = cur.w }) ≡ ranked_p (cut lens bytes) text (Ok cur))
+  pub ranks_in : r < length table → (r ≡ rank_p (words_of table) text (Ok cur)) × (Ok (record { at = i; w = cur.w }) ≡ ranked_p (words_of table) text (Ok cur))
   ranks_in l =
-      let k : rank (lead_word (drop cur.at text)) (cut lens bytes) < length (cut lens bytes) = omega (arith, ranks, cut_length lens bytes) in
+      let k : rank (lead_word (drop cur.at text)) (words_of table) < length (words_of table) = omega (arith, ranks, words_length table) in
       (ranks, rw (lt-ltb _ _ k, e))
 
-  pub ranks_out : length lens ≤ r → (r ≡ rank_p (cut lens bytes) text (Ok cur)) × (Ok cur ≡ ranked_p (cut lens bytes) text (Ok cur))
+  pub ranks_out : length table ≤ r → (r ≡ rank_p (words_of table) text (Ok cur)) × (Ok cur ≡ ranked_p (words_of table) text (Ok cur))
   ranks_out l =
-      let k : length (cut lens bytes) ≤ rank (lead_word (drop cur.at text)) (cut lens bytes) = omega (arith, ranks, cut_length lens bytes) in
+      let k : length (words_of table) ≤ rank (lead_word (drop cur.at text)) (words_of table) = omega (arith, ranks, words_length table) in
       (ranks, rw (le-ltb _ _ k))
 
 -- a word of a table without empty ones is not empty
@@ -200,7 +185,7 @@ module _ {A : Type 0} (text : List ℕ) (p q : Parsed) (r : ℕ) (table : List (
     where
       go : (y : Parsed) → p ≡ y → q ≡ p
       go (Ok cur) t = o.1 ∙ rw (t, miss h cur t)
-      go (Refused e x) t = o.1 ∙ rw t
+      go (Err r) t = o.1 ∙ rw t
 
   not_here : {B : Type 0} → r < length table → (e x : ℕ) → p ≡ Refused e x → B
   not_here h e x t = absurd (let z : r ≡ length table = rw t at o.0 in omega arith)

@@ -20,8 +20,7 @@ use Rattle.lexer.specs.Step.{bumped, taken, StopAt}
 use Rattle.lexer.specs.Reads.{Aim, Finds, Gives, Inside}
 use Rattle.lexer_names.specs.Names.{part, is_quoted, inner, raw_word, WordIs, no_word}
 use Rattle.lexer.specs.declared.Cursor.{Cursor}
-use Rattle.lexer.specs.declared.Parsed.{Parsed}
-use Rattle.lexer.specs.declared.Parsed.TheVariants.{Ok, Refused}
+use Rattle.lexer.specs.Parsed.{Parsed, Ok, Refused}
 use Rattle.lexer.specs.declared.Stop.{Stop}
 use Rattle.program.specs.Lists.{drop_next}
 use Rattle.lexer.proofs.Scan.{scan_some, scan_stop, byte_inside, byte_in}

@@ -1,14 +1,13 @@
 -- Names as they stand in a text: 01, "raw text behind the sigil, quotes included".
 -- Assumes nothing.
 use Rattle.std.specs.Prelude.{◌≡◌, Bool, true, false, List, [], ◌∷◌, ℕ, ◌-◌, ◌<◌, ◌≤◌, eqb, length, take, drop}
-use Rattle.std.proofs.Math.Option.{Option}
 use Rattle.program.specs.Bytes.{byte}
 use Rattle.program.specs.Prog.{Prog, ◌>>=◌}
-use Rattle.grammar.specs.Lexer.{quote_step, cstring_step, Word, plain, quoted, size_of, is_empty_word, unescape, read_word, name_word, eat_ws, byte_if, refuse}
+use Rattle.grammar.specs.Lexer.{Word, plain, quoted, size_of, is_empty_word, unescape, read_word, name_word, eat_ws, byte_if, refuse}
 use Rattle.lexer.specs.Reads.{Gives}
 use Rattle.lexer_names.specs.declared.Letter.{Letter}
-use Rattle.lexer.specs.declared.Parsed.{Parsed}
-use Rattle.lexer.specs.declared.Parsed.TheVariants.{Refused}
+use Rattle.lexer.specs.declared.Num.{Num}
+use Rattle.lexer.specs.Parsed.{Parsed, Refused}
 use Rattle.lexer_names.specs.declared.WordAt.{WordAt}
 
 -- the bytes of a text from a place to another
@@ -41,10 +40,9 @@ no_word e i = record { p = Refused e i; start = 0; end = 0; empty = true }
 abbrev pub sigil_name : ℕ → Prog ℕ
 sigil_name b = eat_ws >>= λ _. byte_if b name_word (refuse 3)
 
--- between the quotes of a byte string, or of a name
-abbrev pub string_step : Bool → ℕ → ℕ → Option ℕ
-string_step true = cstring_step
-string_step false = quote_step
+-- a byte string that is not closed
+abbrev pub not_closed : ℕ → Num
+not_closed i = record { p = Refused 13 i; v = 0 }
 
 -- the spelling of what stands between quotes, or as it is
 unfoldable pub spelled_of : Bool → List ℕ → List ℕ

@@ -1,22 +1,19 @@
 // Names (parser.rs `read_word`, `parse_local_name`, `parse_global_name`): a run of name characters, or quoted, with escapes.
 #![tactic(auto)]
 
-pub mod quotes; // quotes.rt: where what stands between quotes stops
 pub mod skips; // skips.rt: what is passed over, and byte strings
 
 ghost use Rattle.std.specs.Prelude.{◌≡◌, List, ℕ, ◌+◌, ◌≤◌, ◌<◌, drop};
 ghost use Rattle.program.specs.Prog.{scan_len};
 ghost use Rattle.grammar.specs.Lexer.{name_step, quote_step, name_of, name_word, parse_local_name, parse_global_name};
-ghost use Rattle.lexer.specs.Table.{Classes};
-ghost use Rattle.lexer.specs.Step.{step_code};
+ghost use Rattle.lexer.specs.Step.{step_of};
 ghost use Rattle.lexer.specs.Reads.{Gives};
-ghost use Rattle.lexer.specs.declared.Parsed.{Parsed};
+ghost use Rattle.lexer.specs.Parsed.{Parsed, Ok};
 ghost use Rattle.records.specs.Words.{pack};
 ghost use Rattle.lexer_names.specs.Names.{part, raw_word, WordIs, no_word, sigil_name};
 
-use crate::quotes::string_end;
-use lexer::limits::{HEX, NAME};
-use lexer::{Cursor, Num, Parsed, at_byte, class, eat_ws, looks, minus, pass, place, refuse};
+use lexer::{Cursor, Num, Parsed, limits, scan_text};
+use records::Refusal;
 pub use skips::{balanced, cstring, skip_metadata_ref, skip_parens, three_dots};
 
 // A word as it stands in the text, quotes included, and whether it has no bytes (between its quotes).
@@ -37,99 +34,103 @@ pub struct Letter {
 }
 
 // The place behind the name that stands at `at`.
-fn name_end(classes: &[u8; 256], text: &[u8], at: usize) -> usize
-    requires { Classes classes.now }
+fn name_end(text: &[u8], at: usize) -> usize
     ensures { result ≡ at + scan_len name_step 0 (drop at text.now) }
 {
-    let mut i = at;
-    while i < text.len() {
-        if lexer::limits::NAME < lexer::class(classes, text[i]) {
+    for i in at..text.len() {
+        if limits::NAME < lexer::class(text[i]) {
             return i;
         }
-        i += 1;
     }
-    i
+    at.max(text.len())
 }
 
-// Between quotes: 0 stop, else one more than the state behind b, which is 1 behind `\` and 2 behind its first digit.
-pub fn quote_step(classes: &[u8; 256], q: u8, b: u8) -> u8
-    requires { Classes classes.now }
-    ensures { result ≡ step_code (quote_step q b) }
+// Between quotes: the state behind b, which is 1 behind `\` and 2 behind its first digit, or none where they end.
+pub fn quote_step(q: u8, b: u8) -> Option<u8>
+    ensures { step_of result ≡ quote_step q b }
 {
     if q == 0 {
         if b == b'"' {
-            return 0;
+            return None;
         }
         if b == 0 {
-            return 0;
+            return None;
         }
         if b == b'\\' {
-            return 2;
+            return Some(1);
         }
-        return 1;
+        return Some(0);
     }
     if q == 1 {
         if b == b'\\' {
-            return 1;
+            return Some(0);
         }
-        if lexer::class(classes, b) < lexer::limits::HEX {
-            return 3;
+        if lexer::class(b) < limits::HEX {
+            return Some(2);
         }
-        return 0;
+        return None;
     }
-    if lexer::class(classes, b) < lexer::limits::HEX {
-        return 1;
+    if lexer::class(b) < limits::HEX {
+        return Some(0);
     }
-    0
+    None
 }
 
 // A refusal of a word.
-fn no_word(e: u64, at: usize) -> WordAt
-    ensures { result ≡ no_word e at }
+fn no_word(r: Refusal) -> WordAt
+    ensures { result ≡ no_word r.question r.place }
 {
     WordAt {
-        p: Parsed::Refused(e, at),
+        p: Err(r),
         start: 0,
         end: 0,
         empty: true,
     }
 }
 
+// A name, quoted or not, at the cursor; it may be empty.
+fn word_at(text: &[u8], c: Cursor) -> WordAt
+    ensures { WordIs text.now (Ok c) result }
+{
+    if lexer::at_byte(text, c.at, b'"') {
+        let from = c.at + 1;
+        let x = scan_text(text, from, quote_step);
+        if x.q != 0 {
+            return no_word(Refusal {
+                question: records::Q_ESCAPE,
+                place: x.at,
+            });
+        }
+        if lexer::at_byte(text, x.at, b'"') {
+            let end = x.at + 1;
+            return WordAt {
+                p: Ok(Cursor { at: end, w: c.w }),
+                start: c.at,
+                end,
+                empty: x.at == from,
+            };
+        }
+        return no_word(Refusal {
+            question: records::Q_CLOSED,
+            place: x.at,
+        });
+    }
+    let i = name_end(text, c.at);
+    WordAt {
+        p: Ok(Cursor { at: i, w: c.w }),
+        start: c.at,
+        end: i,
+        empty: i == c.at,
+    }
+}
+
 // A name, quoted or not; it may be empty.
-pub fn read_word(classes: &[u8; 256], text: &[u8], p: Parsed) -> WordAt
-    requires { Classes classes.now }
+pub fn read_word(text: &[u8], p: Parsed) -> WordAt
     ensures { WordIs text.now p result }
 {
     match p {
-        Parsed::Ok(c) => {
-            let at = c.at;
-            if lexer::at_byte(text, at, b'"') {
-                let from = at + 1;
-                let x = string_end(classes, text, from, false);
-                let i = x.at;
-                if x.q != 0 {
-                    return no_word(records::Q_ESCAPE, i);
-                }
-                if lexer::at_byte(text, i, b'"') {
-                    let end = i + 1;
-                    return WordAt {
-                        p: Parsed::Ok(Cursor { at: end, w: c.w }),
-                        start: at,
-                        end,
-                        empty: i == from,
-                    };
-                }
-                return no_word(records::Q_CLOSED, i);
-            }
-            let i = name_end(classes, text, at);
-            WordAt {
-                p: Parsed::Ok(Cursor { at: i, w: c.w }),
-                start: at,
-                end: i,
-                empty: i == at,
-            }
-        }
-        Parsed::Refused(e, q) => no_word(e, q),
+        Ok(c) => word_at(text, c),
+        Err(r) => no_word(r),
     }
 }
 
@@ -155,47 +156,43 @@ pub fn name_of(x: WordAt, at: usize) -> Num
         let q2 = lexer::refuse(q, records::Q_TOKEN);
         return Num { p: q2, v: 0 };
     }
-    let n = lexer::minus(x.end, x.start);
+    let n = x.end.saturating_sub(x.start);
     let v = pack_word(at, n);
     Num { p: q, v }
 }
 
 // A name behind its sigil, as its word.
-pub fn name_word(classes: &[u8; 256], text: &[u8], p: Parsed) -> Num
-    requires { Classes classes.now }
+pub fn name_word(text: &[u8], p: Parsed) -> Num
     ensures { Gives name_word result.v text.now p result.p }
 {
     let at = lexer::place(p);
-    let x = read_word(classes, text, p);
+    let x = read_word(text, p);
     name_of(x, at)
 }
 
 // White space, and a name with the sigil b.
-fn sigil_name(classes: &[u8; 256], text: &[u8], p: Parsed, b: u8) -> Num
-    requires { Classes classes.now }
+fn sigil_name(text: &[u8], p: Parsed, b: u8) -> Num
     ensures { Gives (sigil_name b) result.v text.now p result.p }
 {
-    let q = lexer::eat_ws(classes, text, p);
+    let q = lexer::eat_ws(text, p);
     if lexer::looks(text, q, b) {
         let q2 = lexer::pass(text, q, 1);
-        return name_word(classes, text, q2);
+        return name_word(text, q2);
     }
     let q3 = lexer::refuse(q, records::Q_TOKEN);
     Num { p: q3, v: 0 }
 }
 
 // `%name`
-pub fn parse_local_name(classes: &[u8; 256], text: &[u8], p: Parsed) -> Num
-    requires { Classes classes.now }
+pub fn parse_local_name(text: &[u8], p: Parsed) -> Num
     ensures { Gives parse_local_name result.v text.now p result.p }
 {
-    sigil_name(classes, text, p, b'%')
+    sigil_name(text, p, b'%')
 }
 
 // `@name`
-pub fn parse_global_name(classes: &[u8; 256], text: &[u8], p: Parsed) -> Num
-    requires { Classes classes.now }
+pub fn parse_global_name(text: &[u8], p: Parsed) -> Num
     ensures { Gives parse_global_name result.v text.now p result.p }
 {
-    sigil_name(classes, text, p, b'@')
+    sigil_name(text, p, b'@')
 }

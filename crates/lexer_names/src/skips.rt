@@ -2,64 +2,54 @@
 ghost use Rattle.std.specs.Prelude.{◌≡◌, ◌+◌, ◌≤◌, drop};
 ghost use Rattle.program.specs.Prog.{scan_len};
 ghost use Rattle.grammar.specs.Lexer.{balance_step, balanced, skip_parens, skip_metadata_ref, three_dots, cstring_step, cstring_at};
-ghost use Rattle.lexer.specs.Table.{Classes};
-ghost use Rattle.lexer.specs.Step.{step_code};
+ghost use Rattle.lexer.specs.Step.{step_of};
+ghost use Rattle.lexer.specs.Parsed.{Ok};
 ghost use Rattle.lexer.specs.Reads.{Gives};
+ghost use Rattle.lexer_names.specs.Names.{not_closed};
 
-use crate::quotes::string_end;
 use crate::{pack_word, read_word};
-use lexer::limits::HEX;
-use lexer::{
-    Cursor, Num, Parsed, at_byte, bump, class, eat_ws, looks, minus, pass, place, refuse, refuse_at,
-};
+use lexer::{Cursor, Num, Parsed, limits, scan_text};
+use records::Refusal;
 
 // The place of the byte that closes what is open at `at`.
 fn balance_end(text: &[u8], at: usize, left: u8, right: u8) -> usize
     ensures { result ≡ at + scan_len (balance_step left right) 0 (drop at text.now) }
 {
-    let mut i = at;
     let mut q: usize = 0;
-    while i < text.len() {
+    for i in at..text.len() {
         let b = text[i];
         if b == left {
             q += 1;
-        } else {
-            if b == right {
-                if q == 0 {
-                    return i;
-                }
-                q -= 1;
+        } else if b == right {
+            if q == 0 {
+                return i;
             }
+            q -= 1;
         }
-        i += 1;
     }
-    i
+    at.max(text.len())
 }
 
 // Behind the opening byte, through the one that closes it. Quotes and comments do not count.
 pub fn balanced(text: &[u8], p: Parsed, left: u8, right: u8) -> Parsed
     ensures { Gives (balanced left right) tt text.now p result }
 {
-    match p {
-        Parsed::Ok(c) => {
-            let at = c.at;
-            let i = balance_end(text, at, left, right);
-            let q = Parsed::Ok(Cursor { at: i, w: c.w });
-            if lexer::looks(text, q, right) {
-                return lexer::pass(text, q, 1);
-            }
-            lexer::refuse(q, records::Q_CLOSED)
-        }
-        Parsed::Refused(e, q) => Parsed::Refused(e, q),
+    let c = p?;
+    let q = Ok(Cursor {
+        at: balance_end(text, c.at, left, right),
+        w: c.w,
+    });
+    if lexer::looks(text, q, right) {
+        return lexer::pass(text, q, 1);
     }
+    lexer::refuse(q, records::Q_CLOSED)
 }
 
 // White space, and `( .. )`.
-pub fn skip_parens(classes: &[u8; 256], text: &[u8], p: Parsed) -> Parsed
-    requires { Classes classes.now }
+pub fn skip_parens(text: &[u8], p: Parsed) -> Parsed
     ensures { Gives skip_parens tt text.now p result }
 {
-    let q = lexer::eat_ws(classes, text, p);
+    let q = lexer::eat_ws(text, p);
     if lexer::looks(text, q, b'(') {
         let q2 = lexer::pass(text, q, 1);
         return balanced(text, q2, b'(', b')');
@@ -68,20 +58,19 @@ pub fn skip_parens(classes: &[u8; 256], text: &[u8], p: Parsed) -> Parsed
 }
 
 // A metadata attachment, behind its first `!`.
-pub fn skip_metadata_ref(classes: &[u8; 256], text: &[u8], p: Parsed) -> Parsed
-    requires { Classes classes.now }
+pub fn skip_metadata_ref(text: &[u8], p: Parsed) -> Parsed
     ensures { Gives skip_metadata_ref tt text.now p result }
 {
-    let x = read_word(classes, text, p);
+    let x = read_word(text, p);
     let q = x.p;
-    let q1 = lexer::eat_ws(classes, text, q);
+    let q1 = lexer::eat_ws(text, q);
     if lexer::looks(text, q1, b'!') {
         let q2 = lexer::pass(text, q1, 1);
         if lexer::looks(text, q2, b'{') {
             let q3 = lexer::pass(text, q2, 1);
             return balanced(text, q3, b'{', b'}');
         }
-        let y = read_word(classes, text, q2);
+        let y = read_word(text, q2);
         return y.p;
     }
     q1
@@ -106,72 +95,81 @@ pub fn three_dots(text: &[u8], p: Parsed, e: u64) -> Parsed
     lexer::refuse_at(p, e, at)
 }
 
-// Between the quotes of a byte string: 0 stop, else one more than the state behind b, which is 1 behind `\` and 2 behind its first digit.
-pub fn cstring_step(classes: &[u8; 256], q: u8, b: u8) -> u8
-    requires { Classes classes.now }
-    ensures { result ≡ step_code (cstring_step q b) }
+// Between the quotes of a byte string: the state behind b, which is 1 behind `\` and 2 behind its first digit, or none where they end.
+pub fn cstring_step(q: u8, b: u8) -> Option<u8>
+    ensures { step_of result ≡ cstring_step q b }
 {
     if q == 0 {
         if b == b'"' {
-            return 0;
+            return None;
         }
         if b == b'\\' {
-            return 2;
+            return Some(1);
         }
-        return 1;
+        return Some(0);
     }
     if q == 1 {
-        if lexer::class(classes, b) < lexer::limits::HEX {
-            return 3;
+        if lexer::class(b) < limits::HEX {
+            return Some(2);
         }
-        return 1;
+        return Some(0);
     }
-    if lexer::class(classes, b) < lexer::limits::HEX {
-        return 1;
+    if lexer::class(b) < limits::HEX {
+        return Some(0);
     }
-    0
+    None
 }
 
-// A byte string behind its quote, which is at `at`, as its word. Where an escape is cut off the byte behind the cursor is taken before the refusal.
-pub fn cstring(classes: &[u8; 256], text: &[u8], p: Parsed, at: usize) -> Num
-    requires { Classes classes.now }
+// A byte string at the cursor, behind its quote, which is at `at`. Where an escape is cut off the byte behind the cursor is taken before the refusal.
+fn cstring_in(text: &[u8], c: Cursor, at: usize) -> Num
+    ensures { at ≤ 16777216 → Gives (cstring_at at) result.v text.now (Ok c) result.p }
+{
+    let x = scan_text(text, c.at, cstring_step);
+    if x.q == 0 {
+        if lexer::at_byte(text, x.at, b'"') {
+            let n = x.at.saturating_sub(c.at);
+            return Num {
+                p: Ok(Cursor {
+                    at: x.at + 1,
+                    w: c.w,
+                }),
+                v: pack_word(at, n + 2),
+            };
+        }
+        return not_closed(x.at);
+    }
+    let behind = lexer::bump(x.at);
+    if x.q == 1 {
+        return not_closed(behind);
+    }
+    Num {
+        p: Err(Refusal {
+            question: records::Q_ESCAPE,
+            place: behind,
+        }),
+        v: 0,
+    }
+}
+
+// A byte string that is not closed.
+fn not_closed(place: usize) -> Num
+    ensures { result ≡ not_closed place }
+{
+    Num {
+        p: Err(Refusal {
+            question: records::Q_CLOSED,
+            place,
+        }),
+        v: 0,
+    }
+}
+
+// A byte string behind its quote, which is at `at`, as its word.
+pub fn cstring(text: &[u8], p: Parsed, at: usize) -> Num
     ensures { at ≤ 16777216 → Gives (cstring_at at) result.v text.now p result.p }
 {
     match p {
-        Parsed::Ok(c) => {
-            let from = c.at;
-            let x = string_end(classes, text, from, true);
-            let i = x.at;
-            let q = x.q;
-            if q == 0 {
-                if lexer::at_byte(text, i, b'"') {
-                    let n = lexer::minus(i, from);
-                    let v = pack_word(at, n + 2);
-                    return Num {
-                        p: Parsed::Ok(Cursor { at: i + 1, w: c.w }),
-                        v,
-                    };
-                }
-                return Num {
-                    p: Parsed::Refused(records::Q_CLOSED, i),
-                    v: 0,
-                };
-            }
-            let j = lexer::bump(i);
-            if q == 1 {
-                return Num {
-                    p: Parsed::Refused(records::Q_CLOSED, j),
-                    v: 0,
-                };
-            }
-            Num {
-                p: Parsed::Refused(records::Q_ESCAPE, j),
-                v: 0,
-            }
-        }
-        Parsed::Refused(e, q) => Num {
-            p: Parsed::Refused(e, q),
-            v: 0,
-        },
+        Ok(c) => cstring_in(text, c, at),
+        Err(_) => Num { p, v: 0 },
     }
 }

@@ -3,7 +3,7 @@
 
 ghost use Rattle.std.specs.Prelude.{◌≡◌, true, false, ◌+◌, ◌*◌};
 ghost use Rattle.grammar.specs.Lexer.{same_word, rank, spelled, same_name};
-ghost use Rattle.lexer.specs.Table.{Classes, cut};
+ghost use Rattle.lexer.specs.Table.{cut};
 ghost use Rattle.lexer_names.specs.Names.{part, is_quoted, inner, raw_word, spelled_of, EscapeAt, LetterAt};
 
 use lexer::class;
@@ -57,8 +57,7 @@ fn no_letter() -> Letter
 }
 
 // The byte of an escape, behind its `\`.
-fn escaped(classes: &[u8; 256], w: &[u8], at: usize) -> Letter
-    requires { Classes classes.now }
+fn escaped(w: &[u8], at: usize) -> Letter
     ensures { EscapeAt w.now at result }
 {
     if w.len() <= at {
@@ -71,12 +70,12 @@ fn escaped(classes: &[u8; 256], w: &[u8], at: usize) -> Letter
             next: at + 1,
         };
     }
-    let h = lexer::class(classes, w[at]);
+    let h = lexer::class(w[at]);
     let i = at + 1;
     if w.len() <= i {
         return no_letter();
     }
-    let l = lexer::class(classes, w[i]);
+    let l = lexer::class(w[i]);
     let b = pair(h, l);
     Letter {
         there: true,
@@ -86,8 +85,7 @@ fn escaped(classes: &[u8; 256], w: &[u8], at: usize) -> Letter
 }
 
 // The next byte of a word, escapes undone where it was quoted.
-pub fn next_letter(classes: &[u8; 256], w: &[u8], q: bool, at: usize) -> Letter
-    requires { Classes classes.now }
+pub fn next_letter(w: &[u8], q: bool, at: usize) -> Letter
     ensures { LetterAt q w.now at result }
 {
     if w.len() <= at {
@@ -97,7 +95,7 @@ pub fn next_letter(classes: &[u8; 256], w: &[u8], q: bool, at: usize) -> Letter
     let b = w[at];
     if q {
         if b == b'\\' {
-            return escaped(classes, w, i);
+            return escaped(w, i);
         }
         return Letter {
             there: true,
@@ -113,15 +111,14 @@ pub fn next_letter(classes: &[u8; 256], w: &[u8], q: bool, at: usize) -> Letter
 }
 
 // Are two spellings the same?
-fn same_spelling(classes: &[u8; 256], a: &[u8], qa: bool, b: &[u8], qb: bool) -> bool
-    requires { Classes classes.now }
+fn same_spelling(a: &[u8], qa: bool, b: &[u8], qb: bool) -> bool
     ensures { result ≡ same_word (spelled_of qa a.now) (spelled_of qb b.now) }
 {
     let mut i = 0;
     let mut j = 0;
     while i < a.len() {
-        let x = next_letter(classes, a, qa, i);
-        let y = next_letter(classes, b, qb, j);
+        let x = next_letter(a, qa, i);
+        let y = next_letter(b, qb, j);
         let xt = x.there;
         let yt = y.there;
         if xt {
@@ -142,7 +139,7 @@ fn same_spelling(classes: &[u8; 256], a: &[u8], qa: bool, b: &[u8], qb: bool) ->
             return true;
         }
     }
-    let z = next_letter(classes, b, qb, j);
+    let z = next_letter(b, qb, j);
     if z.there {
         return false;
     }
@@ -150,52 +147,48 @@ fn same_spelling(classes: &[u8; 256], a: &[u8], qa: bool, b: &[u8], qb: bool) ->
 }
 
 // Are two names the same, quotes and escapes undone? Each is lent as it stands in its text.
-pub fn same_name(classes: &[u8; 256], a: &[u8], b: &[u8]) -> bool
-    requires { Classes classes.now }
+pub fn same_name(a: &[u8], b: &[u8]) -> bool
     ensures { result ≡ same_name (raw_word a.now) (raw_word b.now) }
 {
     if is_quoted(a) {
         let x = between(a);
         if is_quoted(b) {
             let y = between(b);
-            return same_spelling(classes, x, true, y, true);
+            return same_spelling(x, true, y, true);
         }
-        return same_spelling(classes, x, true, b, false);
+        return same_spelling(x, true, b, false);
     }
     if is_quoted(b) {
         let y = between(b);
-        return same_spelling(classes, a, false, y, true);
+        return same_spelling(a, false, y, true);
     }
     lexer_keywords::same(a, b)
 }
 
 // Does a word spell kw?
-fn spells_raw(classes: &[u8; 256], raw: &[u8], kw: &[u8]) -> bool
-    requires { Classes classes.now }
+fn spells_raw(raw: &[u8], kw: &[u8]) -> bool
     ensures { result ≡ same_word (spelled (raw_word raw.now)) kw.now }
 {
     if is_quoted(raw) {
         let x = between(raw);
-        return same_spelling(classes, x, true, kw, false);
+        return same_spelling(x, true, kw, false);
     }
     lexer_keywords::same(raw, kw)
 }
 
 // Does the word that stands from a place to another spell kw?
-pub fn spells(classes: &[u8; 256], text: &[u8], from: usize, to: usize, kw: &[u8]) -> bool
-    requires { Classes classes.now }
+pub fn spells(text: &[u8], from: usize, to: usize, kw: &[u8]) -> bool
     ensures { result ≡ same_word (spelled (raw_word (part text.now from to))) kw.now }
 {
     let end = lexer_keywords::least(to, text.len());
     if from <= end {
-        return spells_raw(classes, &text[from..end], kw);
+        return spells_raw(&text[from..end], kw);
     }
-    spells_raw(classes, &text[0..0], kw)
+    spells_raw(&text[0..0], kw)
 }
 
 // The rank in a table of a word that stood between quotes.
-fn rank_quoted(classes: &[u8; 256], w: &[u8], lens: &[u8], bytes: &[u8]) -> usize
-    requires { Classes classes.now }
+fn rank_quoted(w: &[u8], lens: &[u8], bytes: &[u8]) -> usize
     ensures { result ≡ rank (spelled_of true w.now) (cut lens.now bytes.now) }
 {
     let mut k = 0;
@@ -204,7 +197,7 @@ fn rank_quoted(classes: &[u8; 256], w: &[u8], lens: &[u8], bytes: &[u8]) -> usiz
         let n = lexer_keywords::wide(lens[k]);
         let m = lexer_keywords::least(n, bytes.len() - a);
         let e = a + m;
-        if same_spelling(classes, w, true, &bytes[a..e], false) {
+        if same_spelling(w, true, &bytes[a..e], false) {
             return k;
         }
         a = e;
@@ -214,32 +207,29 @@ fn rank_quoted(classes: &[u8; 256], w: &[u8], lens: &[u8], bytes: &[u8]) -> usiz
 }
 
 // The rank of a word in a table, by its spelling.
-fn rank_raw(classes: &[u8; 256], raw: &[u8], lens: &[u8], bytes: &[u8]) -> usize
-    requires { Classes classes.now }
+fn rank_raw(raw: &[u8], lens: &[u8], bytes: &[u8]) -> usize
     ensures { result ≡ rank (spelled (raw_word raw.now)) (cut lens.now bytes.now) }
 {
     if is_quoted(raw) {
         let x = between(raw);
-        return rank_quoted(classes, x, lens, bytes);
+        return rank_quoted(x, lens, bytes);
     }
     lexer_keywords::rank_in(raw, lens, bytes)
 }
 
 // The rank in a table of the word that stands from a place to another, by its spelling.
 pub fn spelled_rank(
-    classes: &[u8; 256],
     text: &[u8],
     from: usize,
     to: usize,
     lens: &[u8],
     bytes: &[u8],
 ) -> usize
-    requires { Classes classes.now }
     ensures { result ≡ rank (spelled (raw_word (part text.now from to))) (cut lens.now bytes.now) }
 {
     let end = lexer_keywords::least(to, text.len());
     if from <= end {
-        return rank_raw(classes, &text[from..end], lens, bytes);
+        return rank_raw(&text[from..end], lens, bytes);
     }
-    rank_raw(classes, &text[0..0], lens, bytes)
+    rank_raw(&text[0..0], lens, bytes)
 }

@@ -69,11 +69,10 @@ fn put_letters(out: &mut [u8], at: usize, raw: &[u8]) -> usize
 fn put_unescaped(out: &mut [u8], at: usize, inner: &[u8]) -> usize
     ensures { Stores (letters (unescape 0 0 inner.now)) at out.old result out.new }
 {
-    let classes = lexer::classes();
     let mut k = at;
     let mut i = 0;
     while i < inner.len() {
-        let x = lexer_spelling::next_letter(&classes, inner, true, i);
+        let x = lexer_spelling::next_letter(inner, true, i);
         if !x.there {
             return k;
         }

@@ -12,8 +12,7 @@ use Rattle.lexer.specs.Step.{bumped}
 use Rattle.node_words.specs.Writes.{pushed, pushes, header_of, closes, patches, replaced, replaces}
 use Rattle.lexer.specs.Reads.{Stands, Budget, At, Ends, at, Leads, Goal, made, same}
 use Rattle.lexer.specs.declared.Cursor.{Cursor}
-use Rattle.lexer.specs.declared.Parsed.{Parsed}
-use Rattle.lexer.specs.declared.Parsed.TheVariants.{Ok, Refused}
+use Rattle.lexer.specs.Parsed.{Parsed, Ok, Refused, Err}
 use Rattle.node_words.proofs.Words.{front, pushed as stands-more, patched}
 use Rattle.lexer.proofs.Laws.{bump_in, at_less, at_small}
 
@@ -156,4 +155,4 @@ replace_then {A} {f} {c} x {mid} {E} {text} {p0} {p} {q} {p'} {w} {v} {w'} o h =
   where
     still : (b : Parsed) (n y : ℕ) → replaced b (Refused n y) ≡ Refused n y
     still (Ok b) n y = refl
-    still (Refused e z) n y = refl
+    still (Err r) n y = refl

@@ -6,7 +6,7 @@ ghost use Rattle.std.specs.Prelude.{◌≡◌, ◌+◌, set};
 ghost use Rattle.lexer.specs.Step.{bumped};
 ghost use Rattle.node_words.specs.Writes.{pushed, pushes, header_of, closes, patches, replaced, replaces, back_to, restarted, joined};
 
-use lexer::{Cursor, Parsed, bump, minus};
+use lexer::{Cursor, Parsed};
 
 // Stores x at w, where w is inside.
 pub fn put(words: &mut [u64], w: usize, x: u64) -> usize
@@ -23,14 +23,9 @@ pub fn put(words: &mut [u64], w: usize, x: u64) -> usize
 pub fn push(words: &mut [u64], p: Parsed, x: u64) -> Parsed
     ensures { (result ≡ pushed p) × (words.new ≡ pushes x p words.old) }
 {
-    match p {
-        Parsed::Ok(c) => {
-            let w = c.w;
-            let v = put(words, w, x);
-            Parsed::Ok(Cursor { at: c.at, w: v })
-        }
-        Parsed::Refused(e, q) => Parsed::Refused(e, q),
-    }
+    let c = p?;
+    let w = put(words, c.w, x);
+    Ok(Cursor { at: c.at, w })
 }
 
 // Begins the node of an instruction: a slot for its header, and its destination.
@@ -45,7 +40,7 @@ pub fn begin(words: &mut [u64], p: Parsed, dest: u64) -> Parsed
 fn header_of(kind: u8, d: u8, n: u16, from: usize, to: usize) -> u64
     ensures { result ≡ header_of kind d n from to }
 {
-    let size = lexer::minus(to, from);
+    let size = to.saturating_sub(from);
     if size < records::HALF_LIMIT {
         (kind as u64) * records::KIND_UNIT
             + (d as u64) * records::DETAIL_UNIT
@@ -60,17 +55,10 @@ fn header_of(kind: u8, d: u8, n: u16, from: usize, to: usize) -> u64
 pub fn close(words: &mut [u64], p0: Parsed, p: Parsed, kind: u8, d: u8, n: u16) -> Parsed
     ensures { (result ≡ p) × (words.new ≡ closes kind d n p0 p words.old) }
 {
-    match p0 {
-        Parsed::Ok(b) => match p {
-            Parsed::Ok(c) => {
-                let h = header_of(kind, d, n, b.w, c.w);
-                let v = put(words, b.w, h);
-                Parsed::Ok(Cursor { at: c.at, w: c.w })
-            }
-            Parsed::Refused(e, q) => Parsed::Refused(e, q),
-        },
-        Parsed::Refused(e, q) => p,
+    if let (Ok(b), Ok(c)) = (p0, p) {
+        put(words, b.w, header_of(kind, d, n, b.w, c.w));
     }
+    p
 }
 
 // Stores x at w + k, where that is inside.
@@ -88,33 +76,23 @@ pub fn put_at(words: &mut [u64], w: usize, k: usize, x: u64)
 pub fn patch(words: &mut [u64], p0: Parsed, p: Parsed, k: usize, x: u64) -> Parsed
     ensures { (result ≡ p) × (words.new ≡ patches k x p0 p words.old) }
 {
-    match p0 {
-        Parsed::Ok(b) => match p {
-            Parsed::Ok(c) => {
-                let w = b.w;
-                put_at(words, w, k, x);
-                Parsed::Ok(Cursor { at: c.at, w: c.w })
-            }
-            Parsed::Refused(e, q) => Parsed::Refused(e, q),
-        },
-        Parsed::Refused(e, q) => p,
+    if let (Ok(b), Ok(_)) = (p0, p) {
+        put_at(words, b.w, k, x);
     }
+    p
 }
 
 // The word x in place of all since p0.
 pub fn replace(words: &mut [u64], p0: Parsed, p: Parsed, x: u64) -> Parsed
     ensures { (result ≡ replaced p0 p) × (words.new ≡ replaces x p0 p words.old) }
 {
+    let c = p?;
     match p0 {
-        Parsed::Ok(b) => match p {
-            Parsed::Ok(c) => {
-                let w = b.w;
-                let v = put(words, w, x);
-                Parsed::Ok(Cursor { at: c.at, w: v })
-            }
-            Parsed::Refused(e, q) => Parsed::Refused(e, q),
-        },
-        Parsed::Refused(e, q) => p,
+        Ok(b) => {
+            let w = put(words, b.w, x);
+            Ok(Cursor { at: c.at, w })
+        }
+        Err(_) => p,
     }
 }
 
@@ -122,31 +100,23 @@ pub fn replace(words: &mut [u64], p0: Parsed, p: Parsed, x: u64) -> Parsed
 pub fn back_to(p: Parsed, q: Parsed) -> Parsed
     ensures { result ≡ back_to p q }
 {
-    match q {
-        Parsed::Ok(c) => p,
-        Parsed::Refused(e, x) => Parsed::Refused(e, x),
-    }
+    let _ = q?;
+    p
 }
 
 // The place of p, before any words.
 pub fn restart(p: Parsed) -> Parsed
     ensures { result ≡ restarted p }
 {
-    match p {
-        Parsed::Ok(c) => Parsed::Ok(Cursor { at: c.at, w: 0 }),
-        Parsed::Refused(e, q) => Parsed::Refused(e, q),
-    }
+    let c = p?;
+    Ok(Cursor { at: c.at, w: 0 })
 }
 
 // The place of q with the words of p.
 pub fn join(p: Parsed, q: Parsed) -> Parsed
     ensures { result ≡ joined p q }
 {
-    match p {
-        Parsed::Ok(c) => match q {
-            Parsed::Ok(b) => Parsed::Ok(Cursor { at: b.at, w: c.w }),
-            Parsed::Refused(e, x) => Parsed::Refused(e, x),
-        },
-        Parsed::Refused(e, x) => Parsed::Refused(e, x),
-    }
+    let c = p?;
+    let b = q?;
+    Ok(Cursor { at: b.at, w: c.w })
 }

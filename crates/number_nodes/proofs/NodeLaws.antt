@@ -14,8 +14,7 @@ use Rattle.grammar.specs.Values.{float_node, literal_words, numeral, numeric_or}
 use Rattle.lexer.specs.Step.{looks_p, passed}
 use Rattle.lexer.specs.Reads.{Leads, Reads, Goal, Gives, made, same}
 use Rattle.lexer.specs.declared.Cursor.{Cursor}
-use Rattle.lexer.specs.declared.Parsed.{Parsed}
-use Rattle.lexer.specs.declared.Parsed.TheVariants.{Ok, Refused}
+use Rattle.lexer.specs.Parsed.{Parsed, Ok, Refused}
 use Rattle.lexer.proofs.Laws.{val_paid, call, byte_yes, byte_no, true_false}
 use Rattle.number_integers.specs.declared.literal.Literal.TheVariants.{Int, Float, Refused as Question}
 use Rattle.number_integers.specs.declared.literal.Literal.{Literal}

@@ -6,7 +6,7 @@ use Rattle.program.specs.Prog.{Prog, ◌>>=◌}
 use Rattle.grammar.specs.Numbers.{parse_hex_float, parse_f0x}
 use Rattle.grammar.specs.Values.{prefix_if, float_node, numeral, numeric_or}
 use Rattle.lexer.specs.Reads.{made, Leads, same}
-use Rattle.lexer.specs.declared.Parsed.{Parsed}
+use Rattle.lexer.specs.Parsed.{Parsed}
 
 -- the node of a float's bits, behind `0x` and behind `f0x`
 abbrev pub hex_value : Prog (List ℕ)

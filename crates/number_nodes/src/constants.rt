@@ -1,5 +1,4 @@
 // A numeric constant, or none: `+inf`, `-inf`, `+qnan`, `0x..`, integers and decimals.
-ghost use Rattle.lexer.specs.Table.{Classes};
 ghost use Rattle.lexer.specs.Reads.{Reads};
 ghost use Rattle.number_nodes.specs.Constants.{plus_value, minus_value, digit_value, NumericVal};
 
@@ -9,66 +8,62 @@ use lexer::tests::{digit, starts};
 use lexer::{Parsed, looks, pass, pass_word};
 
 // Behind `+`.
-fn plus_value(classes: &[u8; 256], text: &[u8], words: &mut [u64], p: Parsed) -> Parsed
-    requires { Classes classes.now }
+fn plus_value(text: &[u8], words: &mut [u64], p: Parsed) -> Parsed
     ensures { Reads plus_value text.now p words.old result words.new }
 {
-    if starts(classes, text, p, b"inf") {
+    if starts(text, p, b"inf") {
         let q = pass_word(text, p, b"inf");
         return float_node(words, q, 0x7FF0_0000_0000_0000);
     }
-    if starts(classes, text, p, b"qnan") {
+    if starts(text, p, b"qnan") {
         let q = pass_word(text, p, b"qnan");
         return float_node(words, q, 0x7FF8_0000_0000_0000);
     }
-    numeral(classes, text, words, p, false)
+    numeral(text, words, p, false)
 }
 
 // Behind `-`.
-fn minus_value(classes: &[u8; 256], text: &[u8], words: &mut [u64], p: Parsed) -> Parsed
-    requires { Classes classes.now }
+fn minus_value(text: &[u8], words: &mut [u64], p: Parsed) -> Parsed
     ensures { Reads minus_value text.now p words.old result words.new }
 {
-    if starts(classes, text, p, b"inf") {
+    if starts(text, p, b"inf") {
         let q = pass_word(text, p, b"inf");
         return float_node(words, q, 0xFFF0_0000_0000_0000);
     }
-    numeral(classes, text, words, p, true)
+    numeral(text, words, p, true)
 }
 
 // At a digit.
-fn digit_value(classes: &[u8; 256], text: &[u8], words: &mut [u64], p: Parsed) -> Parsed
-    requires { Classes classes.now }
+fn digit_value(text: &[u8], words: &mut [u64], p: Parsed) -> Parsed
     ensures { Reads digit_value text.now p words.old result words.new }
 {
-    if starts(classes, text, p, b"0x") {
+    if starts(text, p, b"0x") {
         let q = pass_word(text, p, b"0x");
-        return hex_value(classes, text, words, q);
+        return hex_value(text, words, q);
     }
-    if starts(classes, text, p, b"0X") {
+    if starts(text, p, b"0X") {
         let q = pass_word(text, p, b"0X");
-        return hex_value(classes, text, words, q);
+        return hex_value(text, words, q);
     }
-    numeral(classes, text, words, p, false)
+    numeral(text, words, p, false)
 }
 
 // A numeric constant, if there is one. Most begin with a digit, which is tested first.
-pub fn numeric(classes: &[u8; 256], text: &[u8], words: &mut [u64], p: Parsed) -> Hit
-    requires { Classes classes.now }
+pub fn numeric(text: &[u8], words: &mut [u64], p: Parsed) -> Hit
     ensures { NumericVal text.now p words.old result.p result.hit words.new }
 {
-    if digit(classes, text, p) {
-        let r = digit_value(classes, text, words, p);
+    if digit(text, p) {
+        let r = digit_value(text, words, p);
         return Hit { p: r, hit: true };
     }
     if looks(text, p, b'-') {
         let q = pass(text, p, 1);
-        let r = minus_value(classes, text, words, q);
+        let r = minus_value(text, words, q);
         return Hit { p: r, hit: true };
     }
     if looks(text, p, b'+') {
         let q = pass(text, p, 1);
-        let r = plus_value(classes, text, words, q);
+        let r = plus_value(text, words, q);
         return Hit { p: r, hit: true };
     }
     Hit { p, hit: false }

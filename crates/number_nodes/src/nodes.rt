@@ -5,7 +5,6 @@ ghost use Rattle.records.specs.Words.{node};
 ghost use Rattle.records.specs.Kinds.{kind, IntConst};
 ghost use Rattle.grammar.specs.Numbers.{halves, twos};
 ghost use Rattle.grammar.specs.Values.{float_node, numeral};
-ghost use Rattle.lexer.specs.Table.{Classes};
 ghost use Rattle.lexer.specs.Reads.{Leads, Reads, made, same};
 ghost use Rattle.number_nodes.specs.Constants.{hex_value, f0x_value};
 
@@ -46,11 +45,10 @@ fn short_node(words: &mut [u64], p: Parsed, v: u64, neg: bool) -> Parsed
 }
 
 // Any numeral behind its sign.
-fn long_numeral(classes: &[u8; 256], text: &[u8], words: &mut [u64], p: Parsed, neg: bool) -> Parsed
-    requires { Classes classes.now }
+fn long_numeral(text: &[u8], words: &mut [u64], p: Parsed, neg: bool) -> Parsed
     ensures { Reads (numeral neg) text.now p words.old result words.new }
 {
-    let x = parse_numeral(classes, text, p, neg);
+    let x = parse_numeral(text, p, neg);
     let q = x.p;
     let lit = x.lit;
     match lit {
@@ -61,40 +59,37 @@ fn long_numeral(classes: &[u8; 256], text: &[u8], words: &mut [u64], p: Parsed, 
 }
 
 // A numeral behind its sign. Most are short.
-pub fn numeral(classes: &[u8; 256], text: &[u8], words: &mut [u64], p: Parsed, neg: bool) -> Parsed
-    requires { Classes classes.now }
+pub fn numeral(text: &[u8], words: &mut [u64], p: Parsed, neg: bool) -> Parsed
     ensures { Reads (numeral neg) text.now p words.old result words.new }
 {
     match p {
         Parsed::Ok(c) => {
             let at = c.at;
-            let s = short_digits(classes, text, at);
+            let s = short_digits(text, at);
             if s.is {
                 let q = Parsed::Ok(Cursor { at: s.at, w: c.w });
                 return short_node(words, q, s.v, neg);
             }
-            long_numeral(classes, text, words, p, neg)
+            long_numeral(text, words, p, neg)
         }
         Parsed::Refused(e, q) => Parsed::Refused(e, q),
     }
 }
 
 // A float's bits behind `0x`.
-pub fn hex_value(classes: &[u8; 256], text: &[u8], words: &mut [u64], p: Parsed) -> Parsed
-    requires { Classes classes.now }
+pub fn hex_value(text: &[u8], words: &mut [u64], p: Parsed) -> Parsed
     ensures { Reads hex_value text.now p words.old result words.new }
 {
-    let x = parse_hex_float(classes, text, p);
+    let x = parse_hex_float(text, p);
     let q = x.p;
     float_node(words, q, x.v)
 }
 
 // A float's bits behind `f0x`.
-pub fn f0x_value(classes: &[u8; 256], text: &[u8], words: &mut [u64], p: Parsed) -> Parsed
-    requires { Classes classes.now }
+pub fn f0x_value(text: &[u8], words: &mut [u64], p: Parsed) -> Parsed
     ensures { Reads f0x_value text.now p words.old result words.new }
 {
-    let x = parse_f0x(classes, text, p);
+    let x = parse_f0x(text, p);
     let q = x.p;
     float_node(words, q, x.v)
 }

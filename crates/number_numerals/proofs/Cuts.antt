@@ -20,7 +20,7 @@ use Rattle.program.specs.Prog.{Prog, run}
 use Rattle.grammar.specs.Numbers.{read_numeric, literal_of, parse_numeral, Literal as Written}
 use Rattle.lexer.specs.Step.{place_p}
 use Rattle.lexer.specs.declared.Cursor.{Cursor}
-use Rattle.lexer.specs.declared.Parsed.TheVariants.{Ok}
+use Rattle.lexer.specs.Parsed.{Ok}
 use Rattle.lexer.proofs.Laws.{true_false}
 use Rattle.number_integers.specs.Literals.{given}
 use Rattle.number_numerals.specs.Numerals.{started, sign_passed, whole_pushed, whole_next, is_sign, first_next, next_phase, pushed_in, taken_in, step, onward, reach, literal_in}

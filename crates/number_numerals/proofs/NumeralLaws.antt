@@ -16,8 +16,7 @@ use Rattle.grammar.specs.Numbers.{Numeral, digit_step, value_of, halves, twos, l
 use Rattle.lexer.specs.Step.{taken, refused}
 use Rattle.lexer.specs.Reads.{Aim, Finds, Gives}
 use Rattle.lexer.specs.declared.Cursor.{Cursor}
-use Rattle.lexer.specs.declared.Parsed.{Parsed}
-use Rattle.lexer.specs.declared.Parsed.TheVariants.{Ok, Refused}
+use Rattle.lexer.specs.Parsed.{Parsed, Ok, Refused, Err}
 use Rattle.lexer.proofs.Laws.{given as from-run, kept, g_then, g_done, g_byte_no, g_fail}
 use Rattle.number_integers.specs.Folds.{folded, all_digits, begins}
 use Rattle.number_integers.specs.Literals.{given}
@@ -59,7 +58,7 @@ at_cursor neg text (Ok cur) a =
       proper = λ h. n.proper (omega (arith, length-drop cur.at text));
       state = a.state ∙ n.state;
     }
-at_cursor neg text (Refused e q) a = record {
+at_cursor neg text (Err r) a = record {
   numeral = nowhere;
   sign = false;
   gives = rw a.place (kept e q);
@@ -106,7 +105,7 @@ module _ (neg : Bool) {text : List ℕ} {p q : Parsed} {s : Fold} (f : FoldedAt 
     where
       never : (u : Parsed) → Out (refused n u)
       never (Ok c) = tt
-      never (Refused m x) = tt
+      never (Err r) = tt
 
 -- ---- digits that are a numeral by themselves
 low : (v : ℕ) → 0 * W + v ≡ v

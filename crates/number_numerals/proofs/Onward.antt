@@ -18,7 +18,7 @@ use Rattle.program.specs.Prog.{scan_len}
 use Rattle.grammar.specs.Numbers.{digit_step}
 use Rattle.lexer.specs.Step.{taken}
 use Rattle.lexer.specs.declared.Cursor.{Cursor}
-use Rattle.lexer.specs.declared.Parsed.TheVariants.{Ok, Refused}
+use Rattle.lexer.specs.Parsed.{Ok, Refused}
 use Rattle.lexer.proofs.Laws.{true_false}
 use Rattle.number_integers.specs.Folds.{folded}
 use Rattle.number_numerals.specs.Numerals.{next_phase, taken_in, takes, step, onward, reach}

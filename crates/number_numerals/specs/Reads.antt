@@ -3,8 +3,7 @@
 use Rattle.std.specs.Prelude.{◌≡◌, Bool, List, [], ◌∷◌, ℕ, ◌+◌, drop}
 use Rattle.grammar.specs.Numbers.{int, float, parse_numeral, Literal as Written}
 use Rattle.lexer.specs.Reads.{Gives}
-use Rattle.lexer.specs.declared.Parsed.{Parsed}
-use Rattle.lexer.specs.declared.Parsed.TheVariants.{Ok, Refused}
+use Rattle.lexer.specs.Parsed.{Parsed, Ok, Err}
 use Rattle.number_numerals.specs.Numerals.{onward, reach}
 use Rattle.number_integers.specs.declared.literal.Literal.TheVariants.{Int, Float, Refused as Question}
 use Rattle.number_integers.specs.declared.literal.Literal.{Literal}
@@ -14,11 +13,11 @@ use Rattle.number_numerals.specs.declared.Lit.{Lit}
 -- behind what the numeral has of the text, and the state there
 abbrev pub reached_p : Fold → List ℕ → Parsed → Parsed
 reached_p s text (Ok c) = Ok (record { at = c.at + reach s (drop c.at text); w = c.w })
-reached_p s text (Refused e q) = Refused e q
+reached_p s text (Err r) = Err r
 
 abbrev pub onward_p : Fold → List ℕ → Parsed → Fold
 onward_p s text (Ok c) = onward s (drop c.at text)
-onward_p s text (Refused e q) = s
+onward_p s text (Err r) = s
 
 -- From the state s0 the numeral goes on to p', and its state is s there.
 pub record FoldedAt (s0 : Fold) (text : List ℕ) (p p' : Parsed) (s : Fold) : Type 0 where
@@ -34,7 +33,7 @@ written_of (Question e) = float 0
 -- the reader was refused
 abbrev pub Out : Parsed → Type 0
 Out (Ok c) = ⊥
-Out (Refused e q) = Unit {0}
+Out (Err r) = Unit {0}
 
 -- A numeral as its literal.
 pub record LitAt (neg : Bool) (text : List ℕ) (p : Parsed) (r : Lit) : Type 0 where

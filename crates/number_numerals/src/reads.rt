@@ -1,6 +1,5 @@
 // Numerals in a text (`read_numeric`).
 ghost use Rattle.std.specs.Prelude.{◌≡◌};
-ghost use Rattle.lexer.specs.Table.{Classes};
 ghost use Rattle.number_numerals.specs.Reads.{FoldedAt, LitAt};
 
 use crate::folds::{Fold, literal_of, pass_sign, start, take};
@@ -10,8 +9,7 @@ use lexer::{Cursor, Parsed, class, refuse};
 use number_integers::literal::Literal;
 
 // The rest of a numeral from the state s0 of what was passed of it, as far as it goes: none of it may have been passed, or any part.
-pub fn fold_on(classes: &[u8; 256], text: &[u8], p: Parsed, s0: Fold) -> Folded
-    requires { Classes classes.now }
+pub fn fold_on(text: &[u8], p: Parsed, s0: Fold) -> Folded
     ensures { FoldedAt s0 text.now p result.p result.s }
 {
     match p {
@@ -20,7 +18,7 @@ pub fn fold_on(classes: &[u8; 256], text: &[u8], p: Parsed, s0: Fold) -> Folded
             let mut s = s0;
             while i < text.len() {
                 let b = text[i];
-                let d = class(classes, b);
+                let d = class(b);
                 let phase = s.phase;
                 match next_phase(phase, b, d) {
                     Next::On(f) => {
@@ -48,13 +46,12 @@ pub fn fold_on(classes: &[u8; 256], text: &[u8], p: Parsed, s0: Fold) -> Folded
 }
 
 // A numeral behind its sign, as its literal; questions 7 and 17 behind it.
-pub fn parse_numeral(classes: &[u8; 256], text: &[u8], p: Parsed, neg: bool) -> Lit
-    requires { Classes classes.now }
+pub fn parse_numeral(text: &[u8], p: Parsed, neg: bool) -> Lit
     ensures { LitAt neg text.now p result }
 {
     let s0 = start();
     let s1 = pass_sign(s0, neg);
-    let n = fold_on(classes, text, p, s1);
+    let n = fold_on(text, p, s1);
     let q = n.p;
     let s = n.s;
     let lit = literal_of(s);

@@ -18,8 +18,7 @@ use Rattle.lexer.specs.Step.{looks_p, passed, refused, place_p}
 use Rattle.node_words.specs.Writes.{pushed, pushes}
 use Rattle.lexer.specs.Reads.{Stands, Budget, At, Ends, at, out, Leads, Goal, made, reach, Reached, there, gone as is-gone, Gives}
 use Rattle.lexer.specs.declared.Cursor.{Cursor}
-use Rattle.lexer.specs.declared.Parsed.{Parsed}
-use Rattle.lexer.specs.declared.Parsed.TheVariants.{Ok, Refused}
+use Rattle.lexer.specs.Parsed.{Parsed, Ok, Refused}
 use Rattle.lexer.proofs.Laws.{after, bind_at, true_false, at_less, at_part, at_whole, val, place_then, place_at, fail_is, stay, more, no_more, some_byte, pass_in}
 use Rattle.node_words.proofs.Laws.{push_then}
 use Rattle.lexer.proofs.Laws.{turn}

@@ -16,7 +16,7 @@ use Rattle.grammar.specs.Body.{Statement, label, instruction, opcode, Where, in_
 use Rattle.lexer_names.specs.Names.{part, is_quoted, inner, raw_word}
 use Rattle.lexer.specs.Reads.{Budget, At, Ends, at, out, Leads, Goal, made, same, Gave, got, not as is-not, Gives}
 use Rattle.lexer.specs.declared.Cursor.{Cursor}
-use Rattle.lexer.specs.declared.Parsed.{Parsed}
+use Rattle.lexer.specs.Parsed.{Parsed}
 use Rattle.lexer.specs.Step.{refused_at}
 use Rattle.piece_counter.proofs.CounterLaws.{g_fail_at}
 use Rattle.lexer.proofs.Laws.{g_done, done, same_word_lem, after, bind_at, true_false, at_less, at_place, at_part, at_whole, spare}

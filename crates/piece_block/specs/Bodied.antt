@@ -5,8 +5,7 @@ use Rattle.program.specs.Prog.{Res, closed, no_at, run}
 use Rattle.grammar.specs.Body.{finish_block}
 use Rattle.lexer.specs.Reads.{Budget, At, Goal}
 use Rattle.lexer.specs.declared.Cursor.{Cursor}
-use Rattle.lexer.specs.declared.Parsed.{Parsed}
-use Rattle.lexer.specs.declared.Parsed.TheVariants.{Ok, Refused}
+use Rattle.lexer.specs.Parsed.{Parsed, Ok, Refused}
 
 -- A body was read up to its `}`, or through a terminator, behind which the block is to be finished with the counter c: its
 -- instructions' words and the terminator's stand there.

@@ -6,8 +6,7 @@ use Rattle.grammar.specs.Lexer.{read_word}
 use Rattle.grammar.specs.Body.{Statement, label, instruction, terminator, Where, statement_of}
 use Rattle.lexer.specs.Reads.{Budget, At, Goal}
 use Rattle.lexer.specs.declared.Cursor.{Cursor}
-use Rattle.lexer.specs.declared.Parsed.{Parsed}
-use Rattle.lexer.specs.declared.Parsed.TheVariants.{Ok, Refused}
+use Rattle.lexer.specs.Parsed.{Parsed, Ok, Refused}
 
 -- a statement that does not begin with `%`, from place i on
 abbrev pub word_statement : ℕ → Where → Prog Statement

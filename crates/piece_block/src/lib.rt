@@ -8,7 +8,6 @@ ghost use Rattle.std.specs.Prelude.{◌≡◌, [], ◌≤◌, length, drop};
 ghost use Rattle.records.specs.Limits.{turns, text_limit};
 ghost use Rattle.grammar.specs.Body.{parse_body};
 ghost use Rattle.grammar.specs.Function.{block_at};
-ghost use Rattle.lexer.specs.Table.{Classes};
 ghost use Rattle.lexer.specs.Reads.{Leads};
 ghost use Rattle.inst_operands.specs.Rich.{richly};
 ghost use Rattle.piece_directory.specs.Piece.{BlockIs};
@@ -31,8 +30,7 @@ pub struct Body {
 }
 
 // Statements through a terminator or `}`, where the counter is `counter`.
-fn parse_body(classes: &[u8; 256], text: &[u8], words: &mut [u64], p: Parsed, counter: u64) -> Body
-    requires { Classes classes.now }
+fn parse_body(text: &[u8], words: &mut [u64], p: Parsed, counter: u64) -> Body
     ensures { Leads (parse_body turns counter 0 0 0 []) 0 [] (richly text.now (bodied result.tail result.c result.label result.n result.over text.now p)) text.now p p words.old result.p words.new }
 {
     let mut q = p;
@@ -40,9 +38,8 @@ fn parse_body(classes: &[u8; 256], text: &[u8], words: &mut [u64], p: Parsed, co
     let mut label: u64 = 0;
     let mut n: usize = 0;
     let mut over: usize = 0;
-    let mut left: usize = records::TURNS;
-    while 0 < left {
-        let r = lexer::eat_ws(classes, text, q);
+    for _left in (0..records::TURNS).rev() {
+        let r = lexer::eat_ws(text, q);
         if lexer::looks(text, r, b'}') {
             let r1 = lexer::pass(text, r, 1);
             return Body {
@@ -54,7 +51,7 @@ fn parse_body(classes: &[u8; 256], text: &[u8], words: &mut [u64], p: Parsed, co
                 over,
             };
         }
-        let s = statements::parse_statement(classes, text, words, r, Within { c, label, n });
+        let s = statements::parse_statement(text, words, r, Within { c, label, n });
         let r2 = s.p;
         let r3 = lexer::anew(r2);
         let kind = s.kind;
@@ -62,7 +59,6 @@ fn parse_body(classes: &[u8; 256], text: &[u8], words: &mut [u64], p: Parsed, co
             q = r3;
             c = s.c;
             label = s.label;
-            left -= 1;
         } else {
             if kind == statements::INSTRUCTION {
                 let at = lexer::place(r3);
@@ -70,7 +66,6 @@ fn parse_body(classes: &[u8; 256], text: &[u8], words: &mut [u64], p: Parsed, co
                 c = s.c;
                 over = piece_close::over_at(n, over, at);
                 n += 1;
-                left -= 1;
             } else {
                 return Body {
                     p: r3,
@@ -96,14 +91,14 @@ fn parse_body(classes: &[u8; 256], text: &[u8], words: &mut [u64], p: Parsed, co
 
 // A block or the tail, from the start of the text, where the counter is `counter`, its words from the start of the array: slots for the header and the label, the
 // instructions and the terminator.
-pub fn parse_block(classes: &[u8; 256], text: &[u8], words: &mut [u64], counter: u64) -> Piece
-    requires { Classes classes.now × (length text.now ≤ 16777216) }
+pub fn parse_block(text: &[u8], words: &mut [u64], counter: u64) -> Piece
+    requires { length text.now ≤ 16777216 }
     ensures { BlockIs (block_at counter text.now) result words.new × (length words.new ≡ length words.old) }
 {
     let p = Parsed::Ok(Cursor { at: 0, w: 0 });
     let r = node_words::push(words, p, 0);
     let r1 = node_words::push(words, r, 0);
-    let b = parse_body(classes, text, words, r1, counter);
+    let b = parse_body(text, words, r1, counter);
     let q = b.p;
     if b.tail {
         return piece_close::tail_of(q);
@@ -113,23 +108,21 @@ pub fn parse_block(classes: &[u8; 256], text: &[u8], words: &mut [u64], counter:
 }
 
 // The block or tail there. Its words stand from there on, as far as `to`.
-pub fn block_in(classes: &[u8; 256], text: &[u8], words: &mut [u64], spot: Spot, to: usize) -> Piece
-    requires classes { Classes classes.now }
+pub fn block_in(text: &[u8], words: &mut [u64], spot: Spot, to: usize) -> Piece
     requires text_len_bound { (length text.now ≤ text_limit) × (spot.pos ≤ length text.now) }
     requires word_le_to { (spot.word ≤ to) × (to ≤ length words.old) }
     ensures { BlockIn spot.counter (drop spot.pos text.now) spot.word to words.old words.new result }
 {
     let pos = spot.pos;
     let word = spot.word;
-    parse_block(classes, &text[pos..], &mut words[word..to], spot.counter)
+    parse_block(&text[pos..], &mut words[word..to], spot.counter)
 }
 
 // The block or tail at pos, where the counter is `counter`, its words only counted.
-pub fn block_dry(classes: &[u8; 256], text: &[u8], pos: usize, counter: u64) -> Piece
-    requires classes { Classes classes.now }
+pub fn block_dry(text: &[u8], pos: usize, counter: u64) -> Piece
     requires text_len_bound { (length text.now ≤ text_limit) × (pos ≤ length text.now) }
     ensures { BlockDry counter (drop pos text.now) result }
 {
     let mut none = [0u64; 0];
-    parse_block(classes, &text[pos..], &mut none, counter)
+    parse_block(&text[pos..], &mut none, counter)
 }

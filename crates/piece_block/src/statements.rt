@@ -1,7 +1,6 @@
 // Statements (parser.rs `parse_body`, `parse_value_inst`): a label, an instruction or a terminator, by its first word.
 ghost use Rattle.std.specs.Prelude.{List, [], ℕ, ◌≤◌};
 ghost use Rattle.grammar.specs.Body.{instruction, in_block, entered, labelled, parse_inst, parse_statement};
-ghost use Rattle.lexer.specs.Table.{Classes};
 ghost use Rattle.lexer.specs.Reads.{Gives, Leads, made};
 ghost use Rattle.lexer_names.specs.Names.{part, raw_word};
 ghost use Rattle.inst_operands.specs.Rich.{richly};
@@ -50,56 +49,38 @@ fn enter(p: Parsed, at: usize, b: Within) -> Counter
 }
 
 // The counter behind the label that stands from a place to another, its name's end at `at`: 26 behind an instruction.
-fn label_counter(
-    classes: &[u8; 256],
-    text: &[u8],
-    p: Parsed,
-    at: usize,
-    b: Within,
-    from: usize,
-    to: usize,
-) -> Counter
-    requires { Classes classes.now }
+fn label_counter(text: &[u8], p: Parsed, at: usize, b: Within, from: usize, to: usize) -> Counter
     ensures { Gives (labelled at (in_block b.c b.label b.n) (raw_word (part text.now from to))) result.c text.now p result.p }
 {
     let c = b.c;
     if b.n == 0 {
-        return piece_counter::name_counter(classes, text, p, at, c, from, to);
+        return piece_counter::name_counter(text, p, at, c, from, to);
     }
     let q = lexer::refuse_at(p, records::Q_COUNTER, at);
     Counter { p: q, c }
 }
 
 // `%x = ..`, behind the `%`.
-fn parse_inst(classes: &[u8; 256], text: &[u8], words: &mut [u64], p: Parsed, c: u64) -> Counter
-    requires { Classes classes.now }
+fn parse_inst(text: &[u8], words: &mut [u64], p: Parsed, c: u64) -> Counter
     ensures { Leads (parse_inst c) 3 [] (richly text.now (made (instruction result.c) text.now p)) text.now p p words.old result.p words.new }
 {
-    let d = piece_counter::counted_name(classes, text, p, c);
+    let d = piece_counter::counted_name(text, p, c);
     let q = d.p;
-    let q1 = lexer::expect_token(classes, text, q, b'=');
-    let q2 = lexer::eat_ws(classes, text, q1);
-    let x = lexer_names::read_word(classes, text, q2);
+    let q1 = lexer::expect_token(text, q, b'=');
+    let q2 = lexer::eat_ws(text, q1);
+    let x = lexer_names::read_word(text, q2);
     let q3 = x.p;
-    let r = opcodes::value_rank(classes, text, x.start, x.end);
-    let q4 = opcodes::value_inst(classes, text, words, q3, r, d.v);
+    let r = opcodes::value_rank(text, x.start, x.end);
+    let q4 = opcodes::value_inst(text, words, q3, r, d.v);
     Counter { p: q4, c: d.c }
 }
 
 // A label, an instruction without a destination, or a terminator, whose first byte is at `at`. At a refusal it is none of the first two, so that a
 // body ends there.
-fn word_statement(
-    classes: &[u8; 256],
-    text: &[u8],
-    words: &mut [u64],
-    p: Parsed,
-    at: usize,
-    b: Within,
-) -> Stated
-    requires { Classes classes.now }
+fn word_statement(text: &[u8], words: &mut [u64], p: Parsed, at: usize, b: Within) -> Stated
     ensures { at ≤ 16777216 → Leads (word_statement at (in_block b.c b.label b.n)) 0 [] (richly text.now (stated result.kind result.label result.c text.now p)) text.now p p words.old result.p words.new }
 {
-    let x = lexer_names::read_word(classes, text, p);
+    let x = lexer_names::read_word(text, p);
     let q = x.p;
     if x.empty {
         let q1 = lexer::refuse(q, records::Q_STATEMENT);
@@ -113,7 +94,7 @@ fn word_statement(
     let j = lexer::place(q);
     if lexer::looks(text, q, b':') {
         let q2 = lexer::pass(text, q, 1);
-        let d = label_counter(classes, text, q2, j, b, x.start, x.end);
+        let d = label_counter(text, q2, j, b, x.start, x.end);
         let q3 = d.p;
         let n = lexer::minus(x.end, x.start);
         let label = lexer_names::pack_word(at, n);
@@ -127,9 +108,9 @@ fn word_statement(
     let e = enter(q, at, b);
     let q4 = e.p;
     let c = e.c;
-    let r = opcodes::statement_rank(classes, text, x.start, x.end);
+    let r = opcodes::statement_rank(text, x.start, x.end);
     if r < opcodes::S_STORE {
-        let q5 = opcodes::terminator(classes, text, words, q4, r);
+        let q5 = opcodes::terminator(text, words, q4, r);
         return Stated {
             p: q5,
             kind: TERMINATOR,
@@ -137,7 +118,7 @@ fn word_statement(
             c,
         };
     }
-    let y = opcodes::plain_inst(classes, text, words, q4, r, c);
+    let y = opcodes::plain_inst(text, words, q4, r, c);
     let q6 = y.p;
     Stated {
         p: q6,
@@ -148,14 +129,7 @@ fn word_statement(
 }
 
 // One statement of a block that is there.
-pub fn parse_statement(
-    classes: &[u8; 256],
-    text: &[u8],
-    words: &mut [u64],
-    p: Parsed,
-    b: Within,
-) -> Stated
-    requires { Classes classes.now }
+pub fn parse_statement(text: &[u8], words: &mut [u64], p: Parsed, b: Within) -> Stated
     ensures { Leads (parse_statement (in_block b.c b.label b.n)) 0 [] (richly text.now (stated result.kind result.label result.c text.now p)) text.now p p words.old result.p words.new }
 {
     let at = lexer::place(p);
@@ -163,7 +137,7 @@ pub fn parse_statement(
         let q = lexer::pass(text, p, 1);
         let e = enter(q, at, b);
         let q1 = e.p;
-        let x = parse_inst(classes, text, words, q1, e.c);
+        let x = parse_inst(text, words, q1, e.c);
         let q2 = x.p;
         return Stated {
             p: q2,
@@ -172,5 +146,5 @@ pub fn parse_statement(
             c: x.c,
         };
     }
-    word_statement(classes, text, words, p, at, b)
+    word_statement(text, words, p, at, b)
 }

@@ -25,8 +25,7 @@ use Rattle.lexer.specs.Step.{looks_p, passed, refused, counted_p}
 use Rattle.node_words.specs.Writes.{header_of, closes}
 use Rattle.lexer.specs.Reads.{Budget, At, Ends, at, out, Leads, Goal, made, Reached, there, gone, reach, Gave, got, not as refuses, Gives, Came, on, off, Comes, Inside}
 use Rattle.lexer.specs.declared.Cursor.{Cursor}
-use Rattle.lexer.specs.declared.Parsed.{Parsed}
-use Rattle.lexer.specs.declared.Parsed.TheVariants.{Ok, Refused}
+use Rattle.lexer.specs.Parsed.{Parsed, Ok, Refused}
 use Rattle.lexer.proofs.Laws.{Passes, true_false, after, bind_at, at_less, at_place, at_part, at_whole, some_byte, run_eat, byte_run, scan_run, pass_in, val, val_on, more, no_more, dots_yes, dots_no, fail_is, done}
 use Rattle.node_words.proofs.Laws.{at_close}
 use Rattle.lexer_names.proofs.Passed.{passes_any, passes_refuse, passes_byte, passes_then}

@@ -6,8 +6,7 @@ use Rattle.grammar.specs.Counter.{Counted, counted}
 use Rattle.grammar.specs.Types.{Listed, listed}
 use Rattle.lexer.specs.Reads.{Budget, At, Goal}
 use Rattle.lexer.specs.declared.Cursor.{Cursor}
-use Rattle.lexer.specs.declared.Parsed.{Parsed}
-use Rattle.lexer.specs.declared.Parsed.TheVariants.{Ok, Refused}
+use Rattle.lexer.specs.Parsed.{Parsed, Ok, Refused}
 
 -- a list of parameters, and the counter behind it
 abbrev pub params : (c n dots : ℕ) → List ℕ → Counted Listed

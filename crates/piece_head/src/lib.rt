@@ -5,7 +5,6 @@ ghost use Rattle.std.specs.Prelude.{◌≡◌, [], ℕ, ◌≤◌, ◌<◌, leng
 ghost use Rattle.records.specs.Limits.{text_limit};
 ghost use Rattle.grammar.specs.Body.{parse_param, parse_param_list, parse_head};
 ghost use Rattle.grammar.specs.Function.{head_at};
-ghost use Rattle.lexer.specs.Table.{Classes};
 ghost use Rattle.lexer.specs.Reads.{Leads, made};
 ghost use Rattle.piece_directory.specs.Piece.{HeadIs};
 ghost use Rattle.piece_head.specs.Part.{HeadIn, HeadDry};
@@ -25,18 +24,17 @@ pub struct Params {
 }
 
 // A parameter: a type, attributes, and a name where one stands; without one it takes the next number. The name's word stands before the type's.
-fn parse_param(classes: &[u8; 256], text: &[u8], words: &mut [u64], p: Parsed, c: u64) -> Counter
-    requires { Classes classes.now }
+fn parse_param(text: &[u8], words: &mut [u64], p: Parsed, c: u64) -> Counter
     ensures { (q : ℕ) → Leads (parse_param q c) 2 [] (parameter q result.c text.now p) text.now p p words.old result.p words.new }
 {
     let q = node_words::push(words, p, 0);
     let q1 = node_words::push(words, q, 0);
-    let q2 = types::parse_type(classes, text, words, q1, records::DEPTH_LIMIT);
-    let q3 = attributes::skip_attrs(classes, text, q2);
-    let q4 = lexer::eat_ws(classes, text, q3);
+    let q2 = types::parse_type(text, words, q1, records::DEPTH_LIMIT);
+    let q3 = attributes::skip_attrs(text, q2);
+    let q4 = lexer::eat_ws(text, q3);
     if lexer::looks(text, q4, b'%') {
         let q5 = lexer::pass(text, q4, 1);
-        let n = piece_counter::counted_name(classes, text, q5, c);
+        let n = piece_counter::counted_name(text, q5, c);
         let q6 = n.p;
         let q7 = node_words::patch(words, p, q6, 1, n.v);
         let q8 = node_words::close(words, p, q7, records::K_PARAM, records::D_NAMED, 1);
@@ -50,11 +48,10 @@ fn parse_param(classes: &[u8; 256], text: &[u8], words: &mut [u64], p: Parsed, c
 }
 
 // Parameters, `...` in the last place, through the parenthesis (`parse_param_list`). The return type is a child before them.
-fn parse_param_list(classes: &[u8; 256], text: &[u8], words: &mut [u64], p: Parsed) -> Params
-    requires { Classes classes.now }
+fn parse_param_list(text: &[u8], words: &mut [u64], p: Parsed) -> Params
     ensures { Leads parse_param_list 2 [] (made (params result.c result.n result.dots) text.now p) text.now p p words.old result.p words.new × (result.dots ≤ 1) }
 {
-    let mut q = lexer::eat_ws(classes, text, p);
+    let mut q = lexer::eat_ws(text, p);
     if lexer::looks(text, q, b')') {
         let q1 = lexer::pass(text, q, 1);
         return Params {
@@ -64,14 +61,13 @@ fn parse_param_list(classes: &[u8; 256], text: &[u8], words: &mut [u64], p: Pars
             c: 0,
         };
     }
-    let mut left: usize = records::LIST_TURNS;
     let mut n: u16 = 1;
     let mut c: u64 = 0;
-    while 0 < left {
-        let r = lexer::eat_ws(classes, text, q);
+    for _left in (0..records::LIST_TURNS).rev() {
+        let r = lexer::eat_ws(text, q);
         if lexer::looks(text, r, b'.') {
             let r1 = lexer_names::three_dots(text, r, records::Q_TYPE);
-            let r2 = lexer::expect_token(classes, text, r1, b')');
+            let r2 = lexer::expect_token(text, r1, b')');
             return Params {
                 p: r2,
                 n,
@@ -79,16 +75,14 @@ fn parse_param_list(classes: &[u8; 256], text: &[u8], words: &mut [u64], p: Pars
                 c,
             };
         }
-        let x = parse_param(classes, text, words, r, c);
+        let x = parse_param(text, words, r, c);
         let r3 = x.p;
         let r4 = lexer::count_child(r3, n);
-        let e = lexer::comma_or(classes, text, r4, b')');
+        let e = lexer::comma_or(text, r4, b')');
         n = types::one_more(n);
         c = x.c;
         q = e.p;
-        if e.more {
-            left -= 1;
-        } else {
+        if !e.more {
             return Params {
                 p: q,
                 n,
@@ -117,28 +111,27 @@ fn rank_byte(rank: usize) -> u8
 }
 
 // The head, through the `{`, and the counter behind it. The name's word stands before the type's, so its slot is filled behind the type.
-fn head_node(classes: &[u8; 256], text: &[u8], words: &mut [u64], p: Parsed) -> Counter
-    requires { Classes classes.now }
+fn head_node(text: &[u8], words: &mut [u64], p: Parsed) -> Counter
     ensures { Leads parse_head 2 [] (shuts result.c text.now p) text.now p p words.old result.p words.new }
 {
     let mut q = node_words::push(words, p, 0);
     q = node_words::push(words, q, 0);
-    let k = attributes::parse_linkage(classes, text, q);
+    let k = attributes::parse_linkage(text, q);
     let linkage = rank_byte(k.r);
     q = k.p;
-    q = attributes::skip_attrs(classes, text, q);
-    q = attributes::skip_call_cconv(classes, text, q);
-    q = attributes::skip_attrs(classes, text, q);
-    q = types::parse_type(classes, text, words, q, records::DEPTH_LIMIT);
-    let name = lexer_names::parse_global_name(classes, text, q);
+    q = attributes::skip_attrs(text, q);
+    q = attributes::skip_call_cconv(text, q);
+    q = attributes::skip_attrs(text, q);
+    q = types::parse_type(text, words, q, records::DEPTH_LIMIT);
+    let name = lexer_names::parse_global_name(text, q);
     q = name.p;
     q = node_words::patch(words, p, q, 1, name.v);
-    q = lexer::expect_token(classes, text, q, b'(');
-    let l = parse_param_list(classes, text, words, q);
+    q = lexer::expect_token(text, q, b'(');
+    let l = parse_param_list(text, words, q);
     q = l.p;
     let dots = l.dots;
-    q = attributes::skip_attrs(classes, text, q);
-    q = lexer::eat_ws(classes, text, q);
+    q = attributes::skip_attrs(text, q);
+    q = lexer::eat_ws(text, q);
     if lexer::looks(text, q, b'{') {
         q = lexer::pass(text, q, 1);
         let detail = linkage + records::D_VARARGS * dots;
@@ -150,32 +143,30 @@ fn head_node(classes: &[u8; 256], text: &[u8], words: &mut [u64], p: Parsed) -> 
 }
 
 // The head at the start of a text, its words at the start of `words`, as far as these reach.
-pub fn parse_head(classes: &[u8; 256], text: &[u8], words: &mut [u64]) -> Piece
-    requires { Classes classes.now × (length text.now ≤ 16777216) }
+pub fn parse_head(text: &[u8], words: &mut [u64]) -> Piece
+    requires { length text.now ≤ 16777216 }
     ensures { HeadIs (head_at text.now) result words.new × (length words.new ≡ length words.old) }
 {
     let p = Parsed::Ok(Cursor { at: 0, w: 0 });
-    let h = head_node(classes, text, words, p);
+    let h = head_node(text, words, p);
     let q = h.p;
     piece_close::piece_of(q, h.c)
 }
 
 // The head. Its words stand from `word` on, as far as `to`.
-pub fn head_in(classes: &[u8; 256], text: &[u8], words: &mut [u64], word: usize, to: usize) -> Piece
-    requires classes { Classes classes.now }
+pub fn head_in(text: &[u8], words: &mut [u64], word: usize, to: usize) -> Piece
     requires text_len_bound { length text.now ≤ text_limit }
     requires word_le_to { (word ≤ to) × (to ≤ length words.old) }
     ensures { HeadIn text.now word to words.old words.new result }
 {
-    parse_head(classes, text, &mut words[word..to])
+    parse_head(text, &mut words[word..to])
 }
 
 // The head, its words only counted.
-pub fn head_dry(classes: &[u8; 256], text: &[u8]) -> Piece
-    requires classes { Classes classes.now }
+pub fn head_dry(text: &[u8]) -> Piece
     requires text_len_bound { length text.now ≤ text_limit }
     ensures { HeadDry text.now result }
 {
     let mut none = [0u64; 0];
-    parse_head(classes, text, &mut none)
+    parse_head(text, &mut none)
 }

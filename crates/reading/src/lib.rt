@@ -57,8 +57,7 @@ pub fn parse_define(text: &[u8], words: &mut [u64], directory: &mut [u64]) -> An
     match text_whole::text_asked(text) {
         Verdict::Refused(q, p) => refuse(words, directory, q, p),
         Verdict::Fine => {
-            let classes = lexer::classes();
-            match reading_full::read_pieces(&classes, text, words, directory) {
+            match reading_full::read_pieces(text, words, directory) {
                 Written::Refused(q, p) => refuse(words, directory, q, p),
                 Written::All(entries, word) => {
                     clear(words, word);
@@ -83,7 +82,6 @@ fn read_again(
     requires given { Given older.now newer.now (length words.old) entries directory.old }
     ensures { left_again result words.new directory.new ≡ rereading_of words.old directory.old entries older.now newer.now }
 {
-    let classes = lexer::classes();
     let a = text_whole::common(older, newer);
     let c = text_whole::common_end(older, newer, a);
     let front = reread_kept::kept_front(newer, a, directory, entries);
@@ -92,11 +90,11 @@ fn read_again(
         words: words.len(),
         entries,
     };
-    match reread_passes::first::read_dry(&classes, older, newer, directory, known, front) {
+    match reread_passes::first::read_dry(older, newer, directory, known, front) {
         Plan::Refused(q, p) => refuse_again(words, directory, q, p),
         Plan::Keep(behind, from) => {
             let end = reread_kept::keep_behind(words, directory, entries, from, behind);
-            reread_passes::second::write(&classes, newer, words, directory, front, behind);
+            reread_passes::second::write(newer, words, directory, front, behind);
             let count = behind.number + (entries - from);
             clear(words, end);
             clear(directory, count * records::ENTRY_WORDS);

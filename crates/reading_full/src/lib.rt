@@ -3,7 +3,6 @@
 
 ghost use Rattle.std.specs.Prelude.{◌≤◌, length};
 ghost use Rattle.records.specs.Limits.{text_limit};
-ghost use Rattle.lexer.specs.Table.{Classes};
 ghost use Rattle.reading_full.specs.Full.{Come, Ended};
 
 use piece_block::block_in;
@@ -22,13 +21,11 @@ pub enum Written {
 
 // The blocks and the tail, behind the head: the first of them stands there.
 fn read_blocks(
-    classes: &[u8; 256],
     text: &[u8],
     words: &mut [u64],
     directory: &mut [u64],
     first: Spot,
 ) -> Written
-    requires classes { Classes classes.now }
     requires text_len_bound { length text.now ≤ text_limit }
     requires come { Come text.now (length words.old) (length directory.old) first.number first.pos first.word first.counter words.old directory.old }
     ensures { Ended text.now (length words.old) (length directory.old) words.new directory.new result }
@@ -49,7 +46,7 @@ fn read_blocks(
             word,
             counter,
         };
-        match block_in(classes, text, words, spot, to) {
+        match block_in(text, words, spot, to) {
             Piece::Refused(q, p) => return Written::Refused(q, pos as u64 + p),
             Piece::Tail(bytes) => match ask(lent, spot, Size { bytes, words: 0 }) {
                 Verdict::Refused(q, p) => return Written::Refused(q, p),
@@ -74,12 +71,10 @@ fn read_blocks(
 
 // All pieces, from the head on.
 pub fn read_pieces(
-    classes: &[u8; 256],
     text: &[u8],
     words: &mut [u64],
     directory: &mut [u64],
 ) -> Written
-    requires classes { Classes classes.now }
     requires text_len_bound { length text.now ≤ text_limit }
     ensures { Ended text.now (length words.old) (length directory.old) words.new directory.new result }
 {
@@ -94,7 +89,7 @@ pub fn read_pieces(
         word: 0,
         counter: 0,
     };
-    match head_in(classes, text, words, 0, to) {
+    match head_in(text, words, 0, to) {
         Piece::Refused(q, p) => Written::Refused(q, p),
         Piece::Tail(_) => Written::Refused(0, 0),
         Piece::Read(bytes, n, behind) => match ask(lent, start, Size { bytes, words: n }) {
@@ -107,7 +102,7 @@ pub fn read_pieces(
                     word: n,
                     counter: behind,
                 };
-                read_blocks(classes, text, words, directory, first)
+                read_blocks(text, words, directory, first)
             }
         },
     }

@@ -1,7 +1,6 @@
 // The first pass: which pieces are read, and which old ones are kept behind them. All questions are asked, and nothing is written.
 ghost use Rattle.std.specs.Prelude.{◌≡◌, ◌+◌};
 ghost use Rattle.records.specs.Pieces.{common_end, common};
-ghost use Rattle.lexer.specs.Table.{Classes};
 ghost use Rattle.piece_directory.specs.Olds.{olds_of, FrontIs};
 ghost use Rattle.reread_passes.specs.First.{Given, Took, Follows, Ends};
 
@@ -86,14 +85,12 @@ fn follow(
 
 // What follows the pieces kept in front, which end there.
 pub fn read_dry(
-    classes: &[u8; 256],
     older: &[u8],
     newer: &[u8],
     directory: &[u64],
     known: Known,
     front: Spot,
 ) -> Plan
-    requires classes { Classes classes.now }
     requires end_value { known.end ≡ common_end older.now newer.now }
     requires given { Given older.now newer.now known.words known.entries directory.now }
     requires front_is { FrontIs (common older.now newer.now) (olds_of known.entries directory.now) front.number front.pos front.word front.counter }
@@ -119,7 +116,7 @@ pub fn read_dry(
             word,
             counter,
         };
-        match piece_dry(classes, newer, spot) {
+        match piece_dry(newer, spot) {
             Piece::Refused(q, p) => return Plan::Refused(q, pos as u64 + p),
             Piece::Tail(bytes) => match ask(lent, spot, Size { bytes, words: 0 }) {
                 Verdict::Refused(q, p) => return Plan::Refused(q, p),

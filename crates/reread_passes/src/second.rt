@@ -1,7 +1,6 @@
 // The second pass: the pieces that the first found are read again, and written.
 ghost use Rattle.std.specs.Prelude.{◌≤◌, length};
 ghost use Rattle.records.specs.Limits.{text_limit};
-ghost use Rattle.lexer.specs.Table.{Classes};
 ghost use Rattle.reread_passes.specs.Second.{Fit, Wrote};
 
 use crate::numbered::piece_in;
@@ -10,14 +9,12 @@ use piece_directory::pieces::{Piece, Size, Spot};
 
 // The pieces from where the ones kept in front end, up to where those kept behind begin.
 pub fn write(
-    classes: &[u8; 256],
     newer: &[u8],
     words: &mut [u64],
     directory: &mut [u64],
     front: Spot,
     behind: Spot,
 )
-    requires classes { Classes classes.now }
     requires newer_len_bound { length newer.now ≤ text_limit }
     requires fit { Fit newer.now (length words.old) (length directory.old) front.number front.pos front.word front.counter behind.number behind.word }
     ensures { Wrote newer.now front.number front.pos front.word front.counter behind.number behind.word words.old directory.old words.new directory.new }
@@ -35,7 +32,7 @@ pub fn write(
             word,
             counter,
         };
-        match piece_in(classes, newer, words, spot, to) {
+        match piece_in(newer, words, spot, to) {
             Piece::Refused(_, _) => return,
             Piece::Tail(bytes) => {
                 put_entry(directory, spot, Size { bytes, words: 0 });

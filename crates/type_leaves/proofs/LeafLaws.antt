@@ -15,8 +15,7 @@ use Rattle.grammar.specs.Lexer.{is_byte, same_word, skip_parens}
 use Rattle.grammar.specs.Types.{opt_addrspace}
 use Rattle.lexer.specs.Step.{looks_p, word_p}
 use Rattle.lexer.specs.Reads.{Leads, made, same, Gives}
-use Rattle.lexer.specs.declared.Parsed.{Parsed}
-use Rattle.lexer.specs.declared.Parsed.TheVariants.{Ok, Refused}
+use Rattle.lexer.specs.Parsed.{Parsed, Ok, Err}
 use Rattle.lexer.proofs.Laws.{true_false, same_word_lem, g_done, g_word_no, done}
 
 -- ---- where no `a` stands, no `addrspace` does
@@ -31,7 +30,7 @@ no_a (x ∷ s) e = go (is_word x) refl
 
 not_word : (text : List ℕ) (p : Parsed) → looks_p text p 97 ≡ false → word_p text p (bytes "addrspace") ≡ false
 not_word text (Ok c) e = no_a (drop c.at text) e
-not_word text (Refused n q) e = refl
+not_word text (Err r) e = refl
 
 pub not_addrspace : {text : List ℕ} {p : Parsed} {r : Bool} → r ≡ looks_p text p 97 → r ≡ false → Gives opt_addrspace tt text p p
 unfolding opt_addrspace
@@ -53,7 +52,7 @@ headed h kind x e = ap (λ (y : ℕ). y ∷ x ∷ []) (sym e)
 -- two words do not stand at one place
 pub word_alone : (text kw other : List ℕ) (p : Parsed) {r : Bool} → r ≡ word_p text p kw → r ≡ true → same_word kw other ≡ false → word_p text p other ≡ false
 word_alone text kw other (Ok c) {r} l y n = let h : lead_word (drop c.at text) ≡ kw = same_word_lem (lead_word (drop c.at text)) kw (sym l ∙ y) in rw h n
-word_alone text kw other (Refused e q) l y n = refl
+word_alone text kw other (Err r) l y n = refl
 
 -- a word begins with its first byte
 first_other : (b k : ℕ) (ks s : List ℕ) → is_byte b (byte_at s) ≡ true → eqb b k ≡ false → same_word (lead_word s) (k ∷ ks) ≡ false
@@ -74,4 +73,4 @@ first_other b k ks (x ∷ s) h n = go (is_word x) refl
 
 pub word_other : (text : List ℕ) (b k : ℕ) (ks : List ℕ) (p : Parsed) {r : Bool} → r ≡ looks_p text p b → r ≡ true → eqb b k ≡ false → word_p text p (k ∷ ks) ≡ false
 word_other text b k ks (Ok c) l y n = first_other b k ks (drop c.at text) (sym l ∙ y) n
-word_other text b k ks (Refused e q) l y n = refl
+word_other text b k ks (Err r) l y n = refl

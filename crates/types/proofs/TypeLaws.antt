@@ -20,8 +20,7 @@ use Rattle.lexer.specs.Step.{looks_p, passed, refused, counted_p}
 use Rattle.node_words.specs.Writes.{replaced, replaces, back_to}
 use Rattle.lexer.specs.Reads.{Budget, At, Ends, at, out, Leads, Goal, made, reach, same, Gives, Comes}
 use Rattle.lexer.specs.declared.Cursor.{Cursor}
-use Rattle.lexer.specs.declared.Parsed.{Parsed}
-use Rattle.lexer.specs.declared.Parsed.TheVariants.{Ok, Refused}
+use Rattle.lexer.specs.Parsed.{Parsed, Ok, Refused}
 use Rattle.node_words.proofs.Words.{front}
 use Rattle.lexer.proofs.Laws.{more, no_more, word_no, after, bind_at, at_less, at_place, at_part, at_whole, run_eat, done, stay, then, val, byte_yes, byte_no, fail_is, dots_yes, dots_no, place_then, pass_in}
 use Rattle.node_words.proofs.Laws.{replace_then}

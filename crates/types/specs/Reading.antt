@@ -6,8 +6,7 @@ use Rattle.grammar.specs.Lexer.{refuse, eat_ws}
 use Rattle.grammar.specs.Types.{Listed, TypeOut, plain, opened, no_type, parse_type_list, parse_type}
 use Rattle.lexer.specs.Reads.{Budget, At, Goal, Leads}
 use Rattle.lexer.specs.declared.Cursor.{Cursor}
-use Rattle.lexer.specs.declared.Parsed.{Parsed}
-use Rattle.lexer.specs.declared.Parsed.TheVariants.{Ok, Refused}
+use Rattle.lexer.specs.Parsed.{Parsed, Ok, Refused}
 
 -- a list and the white space behind it
 unfoldable pub spaced : Prog Listed → Prog Listed

@@ -3,7 +3,6 @@
 
 ghost use Rattle.std.specs.Prelude.{◌≡◌, List, [], ℕ, ◌+◌, ◌<◌};
 ghost use Rattle.grammar.specs.Types.{listed, struct_fields, parse_type_list, array_type, struct_type, packed_type, parse_base_type, suffixes, no_type, parse_type};
-ghost use Rattle.lexer.specs.Table.{Classes};
 ghost use Rattle.lexer.specs.Reads.{Leads, Reads, made, same};
 ghost use Rattle.types.specs.Reading.{typed, Types};
 
@@ -40,16 +39,14 @@ fn no_type(depth: usize) -> u64
 // `{ T, T, .. }`, behind the opening brace.
 #[cycle(type_readers)]
 fn parse_struct_fields(
-    classes: &[u8; 256],
     text: &[u8],
     words: &mut [u64],
     p: Parsed,
     depth: usize,
 ) -> Listed
-    requires { Classes classes.now }
     ensures { Leads (struct_fields (parse_type depth)) 0 [] (made (listed result.n 0) text.now p) text.now p p words.old result.p words.new }
 {
-    let mut q = lexer::eat_ws(classes, text, p);
+    let mut q = lexer::eat_ws(text, p);
     if lexer::looks(text, q, b'}') {
         let q1 = lexer::pass(text, q, 1);
         return Listed {
@@ -58,17 +55,14 @@ fn parse_struct_fields(
             dots: 0,
         };
     }
-    let mut left: usize = records::LIST_TURNS;
     let mut n: u16 = 0;
-    while 0 < left {
-        let r = parse_type(classes, text, words, q, depth);
+    for _left in (0..records::LIST_TURNS).rev() {
+        let r = parse_type(text, words, q, depth);
         let r1 = lexer::count_child(r, n);
-        let e = lexer::comma_or(classes, text, r1, b'}');
+        let e = lexer::comma_or(text, r1, b'}');
         n = one_more(n);
         q = e.p;
-        if e.more {
-            left -= 1;
-        } else {
+        if !e.more {
             return Listed { p: q, n, dots: 0 };
         }
     }
@@ -79,16 +73,14 @@ fn parse_struct_fields(
 // Types with attributes, `...` in the last place, through the parenthesis (`parse_type_list`). The return type counts with them.
 #[cycle(type_readers)]
 pub fn parse_type_list(
-    classes: &[u8; 256],
     text: &[u8],
     words: &mut [u64],
     p: Parsed,
     depth: usize,
 ) -> Listed
-    requires { Classes classes.now }
     ensures { Leads (parse_type_list (no_type depth) (parse_type depth)) 0 [] (made (listed result.n result.dots) text.now p) text.now p p words.old result.p words.new }
 {
-    let mut q = lexer::eat_ws(classes, text, p);
+    let mut q = lexer::eat_ws(text, p);
     if lexer::looks(text, q, b')') {
         let q1 = lexer::pass(text, q, 1);
         return Listed {
@@ -98,28 +90,25 @@ pub fn parse_type_list(
         };
     }
     let bad = no_type(depth);
-    let mut left: usize = records::LIST_TURNS;
     let mut n: u16 = 1;
-    while 0 < left {
-        let r = lexer::eat_ws(classes, text, q);
+    for _left in (0..records::LIST_TURNS).rev() {
+        let r = lexer::eat_ws(text, q);
         if lexer::looks(text, r, b'.') {
             let r1 = lexer_names::three_dots(text, r, bad);
-            let r2 = lexer::expect_token(classes, text, r1, b')');
+            let r2 = lexer::expect_token(text, r1, b')');
             return Listed {
                 p: r2,
                 n,
                 dots: records::D_DOTS,
             };
         }
-        let r3 = parse_type(classes, text, words, r, depth);
+        let r3 = parse_type(text, words, r, depth);
         let r4 = lexer::count_child(r3, n);
-        let r5 = attributes::skip_attrs(classes, text, r4);
-        let e = lexer::comma_or(classes, text, r5, b')');
+        let r5 = attributes::skip_attrs(text, r4);
+        let e = lexer::comma_or(text, r5, b')');
         n = one_more(n);
         q = e.p;
-        if e.more {
-            left -= 1;
-        } else {
+        if !e.more {
             return Listed { p: q, n, dots: 0 };
         }
     }
@@ -130,7 +119,6 @@ pub fn parse_type_list(
 // `[N x T]` and `<N x T>`, behind the opening byte.
 #[cycle(type_readers)]
 fn array_type(
-    classes: &[u8; 256],
     text: &[u8],
     words: &mut [u64],
     p: Parsed,
@@ -138,34 +126,31 @@ fn array_type(
     end: u8,
     depth: usize,
 ) -> Parsed
-    requires { Classes classes.now }
     ensures { (end ≡ 40 → ⊥) → Leads (array_type packed end (parse_type depth)) 2 [] (made same text.now p) text.now p p words.old result words.new }
 {
     let q = node_words::push(words, p, 0);
-    let q1 = lexer::eat_ws(classes, text, q);
-    let n = number_counts::parse_int(classes, text, q1, 0, records::NUMBER_LIMIT);
+    let q1 = lexer::eat_ws(text, q);
+    let n = number_counts::parse_int(text, q1, 0, records::NUMBER_LIMIT);
     let q2 = n.p;
     let q3 = node_words::push(words, q2, n.v);
-    let q4 = lexer::expect_keyword(classes, text, q3, b"x");
-    let q5 = parse_type(classes, text, words, q4, depth);
-    let q6 = lexer::expect_token(classes, text, q5, end);
+    let q4 = lexer::expect_keyword(text, q3, b"x");
+    let q5 = parse_type(text, words, q4, depth);
+    let q6 = lexer::expect_token(text, q5, end);
     node_words::close(words, p, q6, records::K_ARRAY, packed, 1)
 }
 
 // `{..}`, behind the opening brace.
 #[cycle(type_readers)]
 fn struct_type(
-    classes: &[u8; 256],
     text: &[u8],
     words: &mut [u64],
     p: Parsed,
     depth: usize,
 ) -> Parsed
-    requires { Classes classes.now }
     ensures { Leads (struct_type (parse_type depth)) 1 [] (made same text.now p) text.now p p words.old result words.new }
 {
     let q = node_words::push(words, p, 0);
-    let l = parse_struct_fields(classes, text, words, q, depth);
+    let l = parse_struct_fields(text, words, q, depth);
     let q1 = l.p;
     node_words::close(words, p, q1, records::K_STRUCT, records::D_NONE, l.n)
 }
@@ -173,96 +158,87 @@ fn struct_type(
 // `<{..}>` and `<N x T>`, behind the `<`.
 #[cycle(type_readers)]
 fn packed_type(
-    classes: &[u8; 256],
     text: &[u8],
     words: &mut [u64],
     p: Parsed,
     depth: usize,
 ) -> Parsed
-    requires { Classes classes.now }
     ensures { Leads (packed_type (parse_type depth)) 2 [] (made same text.now p) text.now p p words.old result words.new }
 {
     if lexer::looks(text, p, b'{') {
         let q = lexer::pass(text, p, 1);
         let q1 = node_words::push(words, q, 0);
-        let l = parse_struct_fields(classes, text, words, q1, depth);
+        let l = parse_struct_fields(text, words, q1, depth);
         let q2 = l.p;
-        let q3 = lexer::expect_token(classes, text, q2, b'>');
+        let q3 = lexer::expect_token(text, q2, b'>');
         return node_words::close(words, p, q3, records::K_STRUCT, records::D_PACKED, l.n);
     }
-    array_type(classes, text, words, p, records::D_PACKED, b'>', depth)
+    array_type(text, words, p, records::D_PACKED, b'>', depth)
 }
 
 // A type without what may stand behind it. No keyword begins with a byte that is tried first.
 #[cycle(type_readers)]
 fn parse_base_type(
-    classes: &[u8; 256],
     text: &[u8],
     words: &mut [u64],
     p: Parsed,
     depth: usize,
 ) -> Parsed
-    requires { Classes classes.now }
     ensures { Reads (parse_base_type (parse_type depth)) text.now p words.old result words.new }
 {
     if lexer::looks(text, p, b'i') {
         let q = lexer::pass(text, p, 1);
-        return type_leaves::int_type(classes, text, words, q);
+        return type_leaves::int_type(text, words, q);
     }
     if lexer::looks(text, p, b'%') {
         let q = lexer::pass(text, p, 1);
-        return type_leaves::name_node(classes, text, words, q, records::K_NAMED);
+        return type_leaves::name_node(text, words, q, records::K_NAMED);
     }
     if lexer::looks(text, p, b'[') {
         let q = lexer::pass(text, p, 1);
-        return array_type(classes, text, words, q, 0, b']', depth);
+        return array_type(text, words, q, 0, b']', depth);
     }
     if lexer::looks(text, p, b'{') {
         let q = lexer::pass(text, p, 1);
-        return struct_type(classes, text, words, q, depth);
+        return struct_type(text, words, q, depth);
     }
     if lexer::looks(text, p, b'<') {
         let q = lexer::pass(text, p, 1);
-        return packed_type(classes, text, words, q, depth);
+        return packed_type(text, words, q, depth);
     }
-    type_leaves::keyword_type(classes, text, words, p)
+    type_leaves::keyword_type(text, words, p)
 }
 
 // What may stand behind a type, whose words begin at p0.
 #[cycle(type_readers)]
 fn type_suffixes(
-    classes: &[u8; 256],
     text: &[u8],
     words: &mut [u64],
     p0: Parsed,
     p: Parsed,
     depth: usize,
 ) -> Parsed
-    requires { Classes classes.now }
     ensures { (t : List ℕ) → Leads (suffixes 16777217 (no_type depth) (parse_type depth) t) 0 t (typed (parse_type_list (no_type depth) (parse_type depth)) text.now p0) text.now p0 p words.old result words.new }
 {
     let mut q = p;
-    let mut left: usize = records::TURNS;
-    while 0 < left {
-        let r = lexer::eat_ws(classes, text, q);
+    for _left in (0..records::TURNS).rev() {
+        let r = lexer::eat_ws(text, q);
         if lexer::looks(text, r, b'(') {
             let s = lexer::pass(text, r, 1);
-            let l = parse_type_list(classes, text, words, s, depth);
+            let l = parse_type_list(text, words, s, depth);
             let s1 = l.p;
-            let s2 = lexer::eat_ws(classes, text, s1);
+            let s2 = lexer::eat_ws(text, s1);
             if lexer::looks(text, s2, b'*') {
                 let t = lexer::pass(text, s2, 1);
                 q = node_words::replace(words, p0, t, records::PTR_NODE);
-                left -= 1;
             } else {
                 return node_words::back_to(r, s2);
             }
         } else {
-            let s = type_leaves::opt_addrspace(classes, text, r);
+            let s = type_leaves::opt_addrspace(text, r);
             if lexer::looks(text, s, b'*') {
                 let t = lexer::pass(text, s, 1);
                 q = node_words::replace(words, p0, t, records::PTR_NODE);
-                left -= 1;
             } else {
                 return s;
             }
@@ -274,19 +250,17 @@ fn type_suffixes(
 // A type (`parse_type`). At a parenthesis behind it that no `*` follows the cursor is back at the parenthesis.
 #[cycle(type_readers)]
 pub fn parse_type(
-    classes: &[u8; 256],
     text: &[u8],
     words: &mut [u64],
     p: Parsed,
     depth: usize,
 ) -> Parsed
-    requires { Classes classes.now }
     ensures { Types depth text.now p words.old result words.new }
 {
-    let q = lexer::eat_ws(classes, text, p);
+    let q = lexer::eat_ws(text, p);
     if depth == 0 {
         return lexer::refuse(q, records::Q_DEPTH);
     }
-    let r = parse_base_type(classes, text, words, q, depth - 1);
-    type_suffixes(classes, text, words, q, r, depth - 1)
+    let r = parse_base_type(text, words, q, depth - 1);
+    type_suffixes(text, words, q, r, depth - 1)
 }

@@ -11,8 +11,7 @@ use Rattle.grammar.specs.Lexer.{same_word, word_at_if}
 use Rattle.lexer.specs.Step.{word_p, passed}
 use Rattle.lexer.specs.Reads.{Leads, Goal}
 use Rattle.lexer.specs.declared.Cursor.{Cursor}
-use Rattle.lexer.specs.declared.Parsed.{Parsed}
-use Rattle.lexer.specs.declared.Parsed.TheVariants.{Ok}
+use Rattle.lexer.specs.Parsed.{Parsed, Ok}
 use Rattle.lexer.proofs.Laws.{true_false, some_word, run_eat, moved}
 use Rattle.value_leaves.specs.Leaf.{Tried}
 

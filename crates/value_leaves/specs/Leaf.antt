@@ -10,7 +10,7 @@ use Rattle.grammar.specs.Numbers.{parse_f0x}
 use Rattle.grammar.specs.Values.{prefix_if, float_node, cstring, parse_gep_flags}
 use Rattle.lexer.specs.Step.{rank_p, ranked_p}
 use Rattle.lexer.specs.Reads.{made, Leads, Gives, Comes, same}
-use Rattle.lexer.specs.declared.Parsed.{Parsed}
+use Rattle.lexer.specs.Parsed.{Parsed}
 
 -- A form of F is read, or none stands here and what comes next decides.
 pub record Tried (F : Prog (List ℕ) → Prog (List ℕ)) (text : List ℕ) (p : Parsed) (words : List ℕ) (p' : Parsed) (hit : Bool) (words' : List ℕ) : Type 0 where

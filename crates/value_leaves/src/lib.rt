@@ -7,7 +7,6 @@ ghost use Rattle.program.specs.Prog.{ret};
 ghost use Rattle.records.specs.Words.{node};
 ghost use Rattle.records.specs.Limits.{turns};
 ghost use Rattle.grammar.specs.Values.{conv_ops, bin_ops, cstring, leaf_values, parse_gep_flags};
-ghost use Rattle.lexer.specs.Table.{Classes};
 ghost use Rattle.lexer.specs.Step.{word_p};
 ghost use Rattle.lexer.specs.Reads.{Leads, Reads, Gives, made, same};
 ghost use Rattle.value_leaves.specs.Leaf.{Tried, key_values, Op, FlagStep};
@@ -23,19 +22,20 @@ pub struct Oper {
     pub hit: bool,
 }
 
+static CONV_OPS: [&[u8]; 6] = [
+    b"trunc",
+    b"zext",
+    b"sext",
+    b"ptrtoint",
+    b"inttoptr",
+    b"bitcast",
+];
+
 // A conversion's word (`match_conv_op`).
-pub fn match_conv_op(classes: &[u8; 256], text: &[u8], p: Parsed) -> Oper
-    requires { Classes classes.now }
+pub fn match_conv_op(text: &[u8], p: Parsed) -> Oper
     ensures { Op conv_ops text.now p result.p result.r result.hit }
 {
-    let lens: [u8; 6] = [5, 4, 4, 8, 8, 7];
-    let k = lexer_keywords::match_rank(
-        classes,
-        text,
-        p,
-        &lens,
-        b"trunczextsextptrtointinttoptrbitcast",
-    );
+    let k = lexer_keywords::match_rank(text, p, &CONV_OPS);
     let q = k.p;
     let r = k.r;
     if r < 6 {
@@ -52,19 +52,16 @@ pub fn match_conv_op(classes: &[u8; 256], text: &[u8], p: Parsed) -> Oper
     }
 }
 
+static BIN_OPS: [&[u8]; 13] = [
+    b"add", b"sub", b"mul", b"udiv", b"sdiv", b"urem", b"srem", b"and", b"or", b"xor", b"shl",
+    b"lshr", b"ashr",
+];
+
 // A binary operation's word (`match_bin_op`).
-pub fn match_bin_op(classes: &[u8; 256], text: &[u8], p: Parsed) -> Oper
-    requires { Classes classes.now }
+pub fn match_bin_op(text: &[u8], p: Parsed) -> Oper
     ensures { Op bin_ops text.now p result.p result.r result.hit }
 {
-    let lens: [u8; 13] = [3, 3, 3, 4, 4, 4, 4, 3, 2, 3, 3, 4, 4];
-    let k = lexer_keywords::match_rank(
-        classes,
-        text,
-        p,
-        &lens,
-        b"addsubmuludivsdivuremsremandorxorshllshrashr",
-    );
+    let k = lexer_keywords::match_rank(text, p, &BIN_OPS);
     let q = k.p;
     let r = k.r;
     if r < 13 {
@@ -90,12 +87,11 @@ pub struct Flags {
 }
 
 // One flag of a getelementptr, or none.
-fn gep_flag(classes: &[u8; 256], text: &[u8], p: Parsed, v: u8) -> Flags
-    requires { Classes classes.now }
+fn gep_flag(text: &[u8], p: Parsed, v: u8) -> Flags
     ensures { FlagStep text.now p v result.p result.v result.more }
 {
-    let q = lexer::eat_ws(classes, text, p);
-    if lexer::word(classes, text, q, b"inbounds") {
+    let q = lexer::eat_ws(text, p);
+    if lexer::word(text, q, b"inbounds") {
         let q1 = lexer::pass_word(text, q, b"inbounds");
         return Flags {
             p: q1,
@@ -103,7 +99,7 @@ fn gep_flag(classes: &[u8; 256], text: &[u8], p: Parsed, v: u8) -> Flags
             more: true,
         };
     }
-    if lexer::word(classes, text, q, b"nuw") {
+    if lexer::word(text, q, b"nuw") {
         let q1 = lexer::pass_word(text, q, b"nuw");
         return Flags {
             p: q1,
@@ -111,7 +107,7 @@ fn gep_flag(classes: &[u8; 256], text: &[u8], p: Parsed, v: u8) -> Flags
             more: true,
         };
     }
-    if lexer::word(classes, text, q, b"nusw") {
+    if lexer::word(text, q, b"nusw") {
         let q1 = lexer::pass_word(text, q, b"nusw");
         return Flags {
             p: q1,
@@ -119,9 +115,9 @@ fn gep_flag(classes: &[u8; 256], text: &[u8], p: Parsed, v: u8) -> Flags
             more: true,
         };
     }
-    if lexer::word(classes, text, q, b"inrange") {
+    if lexer::word(text, q, b"inrange") {
         let r = lexer::pass_word(text, q, b"inrange");
-        let r1 = lexer_names::skip_parens(classes, text, r);
+        let r1 = lexer_names::skip_parens(text, r);
         return Flags {
             p: r1,
             v,
@@ -136,20 +132,16 @@ fn gep_flag(classes: &[u8; 256], text: &[u8], p: Parsed, v: u8) -> Flags
 }
 
 // The flags of a getelementptr (`parse_gep_flags`): whether `inbounds` is among them.
-pub fn parse_gep_flags(classes: &[u8; 256], text: &[u8], p: Parsed) -> Flags
-    requires { Classes classes.now }
+pub fn parse_gep_flags(text: &[u8], p: Parsed) -> Flags
     ensures { Gives (parse_gep_flags turns 0) result.v text.now p result.p }
 {
     let mut q = p;
     let mut v: u8 = records::D_NONE;
-    let mut left: usize = records::TURNS;
-    while 0 < left {
-        let f = gep_flag(classes, text, q, v);
+    for _left in (0..records::TURNS).rev() {
+        let f = gep_flag(text, q, v);
         q = f.p;
         v = f.v;
-        if f.more {
-            left -= 1;
-        } else {
+        if !f.more {
             return Flags {
                 p: q,
                 v,
@@ -175,36 +167,35 @@ fn bool_node(words: &mut [u64], p: Parsed, x: u64) -> Parsed
 }
 
 // The values that are a word. No two words stand at one place, so they are tried by how often they come.
-fn key_value(classes: &[u8; 256], text: &[u8], words: &mut [u64], p: Parsed) -> Hit
-    requires { Classes classes.now }
+fn key_value(text: &[u8], words: &mut [u64], p: Parsed) -> Hit
     ensures { Tried key_values text.now p words.old result.p result.hit words.new }
 {
-    if lexer::word(classes, text, p, b"null") {
+    if lexer::word(text, p, b"null") {
         let q = lexer::pass_word(text, p, b"null");
         let r = type_leaves::leaf(words, q, records::K_NULL);
         return Hit { p: r, hit: true };
     }
-    if lexer::word(classes, text, p, b"true") {
+    if lexer::word(text, p, b"true") {
         let q = lexer::pass_word(text, p, b"true");
         let r = bool_node(words, q, 1);
         return Hit { p: r, hit: true };
     }
-    if lexer::word(classes, text, p, b"false") {
+    if lexer::word(text, p, b"false") {
         let q = lexer::pass_word(text, p, b"false");
         let r = bool_node(words, q, 0);
         return Hit { p: r, hit: true };
     }
-    if lexer::word(classes, text, p, b"undef") {
+    if lexer::word(text, p, b"undef") {
         let q = lexer::pass_word(text, p, b"undef");
         let r = type_leaves::leaf(words, q, records::K_UNDEF);
         return Hit { p: r, hit: true };
     }
-    if lexer::word(classes, text, p, b"poison") {
+    if lexer::word(text, p, b"poison") {
         let q = lexer::pass_word(text, p, b"poison");
         let r = type_leaves::leaf(words, q, records::K_POISON);
         return Hit { p: r, hit: true };
     }
-    if lexer::word(classes, text, p, b"zeroinitializer") {
+    if lexer::word(text, p, b"zeroinitializer") {
         let q = lexer::pass_word(text, p, b"zeroinitializer");
         let r = type_leaves::leaf(words, q, records::K_ZERO_INIT);
         return Hit { p: r, hit: true };
@@ -213,8 +204,7 @@ fn key_value(classes: &[u8; 256], text: &[u8], words: &mut [u64], p: Parsed) -> 
 }
 
 // `c".."`, or 6 where no quote is behind the `c`.
-fn cstring_value(classes: &[u8; 256], text: &[u8], words: &mut [u64], p: Parsed) -> Parsed
-    requires { Classes classes.now }
+fn cstring_value(text: &[u8], words: &mut [u64], p: Parsed) -> Parsed
     ensures { word_p text.now p (bytes "c") ≡ true → Reads cstring text.now p words.old result words.new }
 {
     let at = lexer::place(p);
@@ -223,7 +213,7 @@ fn cstring_value(classes: &[u8; 256], text: &[u8], words: &mut [u64], p: Parsed)
     if lexer::looks(text, q, b'"') {
         let r = lexer::pass(text, q, 1);
         let r1 = node_words::push(words, r, 0);
-        let n = lexer_names::cstring(classes, text, r1, from);
+        let n = lexer_names::cstring(text, r1, from);
         let r2 = n.p;
         let r3 = node_words::push(words, r2, n.v);
         return node_words::close(words, p, r3, records::K_CSTR, records::D_NONE, 0);
@@ -232,48 +222,46 @@ fn cstring_value(classes: &[u8; 256], text: &[u8], words: &mut [u64], p: Parsed)
 }
 
 // The values that hold no other.
-fn any_leaf(classes: &[u8; 256], text: &[u8], words: &mut [u64], p: Parsed) -> Hit
-    requires { Classes classes.now }
+fn any_leaf(text: &[u8], words: &mut [u64], p: Parsed) -> Hit
     ensures { Tried leaf_values text.now p words.old result.p result.hit words.new }
 {
     if lexer::looks(text, p, b'%') {
         let q = lexer::pass(text, p, 1);
-        let r = type_leaves::name_node(classes, text, words, q, records::K_LOCAL);
+        let r = type_leaves::name_node(text, words, q, records::K_LOCAL);
         return Hit { p: r, hit: true };
     }
     if lexer::looks(text, p, b'@') {
         let q = lexer::pass(text, p, 1);
-        let r = type_leaves::name_node(classes, text, words, q, records::K_GLOBAL);
+        let r = type_leaves::name_node(text, words, q, records::K_GLOBAL);
         return Hit { p: r, hit: true };
     }
-    let n = number_nodes::numeric(classes, text, words, p);
+    let n = number_nodes::numeric(text, words, p);
     let q = n.p;
     if n.hit {
         return Hit { p: q, hit: true };
     }
-    let k = key_value(classes, text, words, p);
+    let k = key_value(text, words, p);
     let s = k.p;
     if k.hit {
         return Hit { p: s, hit: true };
     }
-    if lexer::word(classes, text, p, b"c") {
-        let r = cstring_value(classes, text, words, p);
+    if lexer::word(text, p, b"c") {
+        let r = cstring_value(text, words, p);
         return Hit { p: r, hit: true };
     }
-    if lexer::tests::starts(classes, text, p, b"f0x") {
+    if lexer::tests::starts(text, p, b"f0x") {
         let t = lexer::pass_word(text, p, b"f0x");
-        let r = number_nodes::f0x_value(classes, text, words, t);
+        let r = number_nodes::f0x_value(text, words, t);
         return Hit { p: r, hit: true };
     }
     Hit { p, hit: false }
 }
 
 // The same, its answer made anew.
-pub fn leaf_value(classes: &[u8; 256], text: &[u8], words: &mut [u64], p: Parsed) -> Hit
-    requires { Classes classes.now }
+pub fn leaf_value(text: &[u8], words: &mut [u64], p: Parsed) -> Hit
     ensures { Tried leaf_values text.now p words.old result.p result.hit words.new }
 {
-    let h = any_leaf(classes, text, words, p);
+    let h = any_leaf(text, words, p);
     let q = h.p;
     let r = lexer::anew(q);
     Hit { p: r, hit: h.hit }

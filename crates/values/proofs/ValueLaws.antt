@@ -16,8 +16,7 @@ use Rattle.grammar.specs.Types.{Listed, listed, TypeOut, room, child, whole, typ
 use Rattle.grammar.specs.Values.{conv_ops, bin_ops, prefix_if, digit_if, numeric_or, leaf_values, pair_with, pair_child, aggregate, packed_const, gep_indices, const_exprs, value_with, parse_value, parse_typed_val}
 use Rattle.lexer.specs.Step.{place_p, refused, counted_p}
 use Rattle.lexer.specs.Reads.{Leads, Goal, made, reach, same, Gives, Comes, Counts}
-use Rattle.lexer.specs.declared.Parsed.{Parsed}
-use Rattle.lexer.specs.declared.Parsed.TheVariants.{Ok, Refused}
+use Rattle.lexer.specs.Parsed.{Parsed, Ok, Err}
 use Rattle.lexer.proofs.Laws.{more, no_more, no_ok, done, stay, then, val, fail_is, call, place_at}
 use Rattle.lexer.proofs.Children.{assoc, child_is, counted_hands, if_there, comma_yes, comma_no}
 use Rattle.types.specs.Reading.{Types}
@@ -94,7 +93,7 @@ child_none n e g h = rw e (val {f = eat_ws} (λ _. refuse 16) g (fail_is _ h))
 
 pub none_counted : (e : ℕ) (q : Parsed) {r : Parsed} {m k : ℕ} → r ≡ refused e q → Counts r m k
 none_counted e (Ok c) h cur o = no_ok cur e c.at (sym o ∙ h)
-none_counted e (Refused a b) h cur o = no_ok cur a b (sym o ∙ h)
+none_counted e (Err r) h cur o = no_ok cur r.question r.place (sym o ∙ h)
 
 module _ (n k : ℕ) {text : List ℕ} {p q1 q2 q3 q4 : Parsed} {w w1 w2 : List ℕ} (x : q2 ≡ counted_p n q1) (e : n < 65535 → k ≡ n + 1) (x2 : q4 ≡ counted_p k q3) where
   child_at_lem : (d : ℕ) → Types (suc d) text p w q1 w1 → Leads (parse_value (suc d)) 0 [] (made same text q2) text q2 q2 w1 q3 w2 → Leads (pair_child (parse_type (suc d)) (parse_value (suc d)) n) 0 [] (made same text p) text p p w q4 w2

@@ -4,7 +4,6 @@
 ghost use Rattle.std.specs.Prelude.{[], ◌+◌};
 ghost use Rattle.grammar.specs.Types.{listed, parse_type};
 ghost use Rattle.grammar.specs.Values.{pair_child, pair_list, aggregate, packed_const, gep_indices, parse_ce_gep, parse_ce_conv, parse_ce_bin, const_exprs, parse_value, parse_typed_val};
-ghost use Rattle.lexer.specs.Table.{Classes};
 ghost use Rattle.lexer.specs.Reads.{Leads, Reads, Counts, made, same};
 
 use lexer::Parsed;
@@ -13,17 +12,15 @@ use types::Listed;
 // Typed values behind commas, through the closing byte, behind the opening one (`parse_array_const`, `parse_struct_const`).
 #[cycle(value_readers)]
 fn pair_list(
-    classes: &[u8; 256],
     text: &[u8],
     words: &mut [u64],
     p: Parsed,
     end: u8,
     depth: usize,
 ) -> Listed
-    requires { Classes classes.now }
     ensures { Leads (pair_list end (parse_type depth) (parse_value depth)) 0 [] (made (listed result.n 0) text.now p) text.now p p words.old result.p words.new }
 {
-    let mut q = lexer::eat_ws(classes, text, p);
+    let mut q = lexer::eat_ws(text, p);
     if lexer::looks(text, q, end) {
         let q1 = lexer::pass(text, q, 1);
         return Listed {
@@ -32,17 +29,14 @@ fn pair_list(
             dots: 0,
         };
     }
-    let mut left: usize = records::LIST_TURNS;
     let mut n: u16 = 0;
-    while 0 < left {
-        let x = pair_child(classes, text, words, q, n, depth);
+    for _left in (0..records::LIST_TURNS).rev() {
+        let x = pair_child(text, words, q, n, depth);
         let q1 = x.p;
-        let e = lexer::comma_or(classes, text, q1, end);
+        let e = lexer::comma_or(text, q1, end);
         n = x.n;
         q = e.p;
-        if e.more {
-            left -= 1;
-        } else {
+        if !e.more {
             return Listed { p: q, n, dots: 0 };
         }
     }
@@ -53,7 +47,6 @@ fn pair_list(
 // `[..]` and `{..}`, behind the opening byte.
 #[cycle(value_readers)]
 fn aggregate(
-    classes: &[u8; 256],
     text: &[u8],
     words: &mut [u64],
     p: Parsed,
@@ -61,11 +54,10 @@ fn aggregate(
     end: u8,
     depth: usize,
 ) -> Parsed
-    requires { Classes classes.now }
     ensures { Leads (aggregate kind end (parse_type depth) (parse_value depth)) 1 [] (made same text.now p) text.now p p words.old result words.new }
 {
     let q = node_words::push(words, p, 0);
-    let l = pair_list(classes, text, words, q, end, depth);
+    let l = pair_list(text, words, q, end, depth);
     let q1 = l.p;
     node_words::close(words, p, q1, kind, records::D_NONE, l.n)
 }
@@ -73,22 +65,20 @@ fn aggregate(
 // `<{..}>`, behind the `<` that stands at `at`.
 #[cycle(value_readers)]
 fn packed_const(
-    classes: &[u8; 256],
     text: &[u8],
     words: &mut [u64],
     p: Parsed,
     at: usize,
     depth: usize,
 ) -> Parsed
-    requires { Classes classes.now }
     ensures { Leads (packed_const at (parse_type depth) (parse_value depth)) 1 [] (made same text.now p) text.now p p words.old result words.new }
 {
     if lexer::looks(text, p, b'{') {
         let q = lexer::pass(text, p, 1);
         let q1 = node_words::push(words, q, 0);
-        let l = pair_list(classes, text, words, q1, b'}', depth);
+        let l = pair_list(text, words, q1, b'}', depth);
         let q2 = l.p;
-        let q3 = lexer::expect_token(classes, text, q2, b'>');
+        let q3 = lexer::expect_token(text, q2, b'>');
         return node_words::close(words, p, q3, records::K_STRUCT_CONST, records::D_NONE, l.n);
     }
     lexer::refuse_at(p, records::Q_VALUE, at)
@@ -97,27 +87,23 @@ fn packed_const(
 // The indices of a constant getelementptr, from before the comma through the `)`.
 #[cycle(value_readers)]
 fn gep_indices(
-    classes: &[u8; 256],
     text: &[u8],
     words: &mut [u64],
     p: Parsed,
     depth: usize,
 ) -> Listed
-    requires { Classes classes.now }
     ensures { Leads (gep_indices 65536 (parse_type depth) (parse_value depth) 3 []) 0 [] (made (listed result.n 0) text.now p) text.now p p words.old result.p words.new }
 {
     let mut q = p;
-    let mut left: usize = records::LIST_TURNS;
     let mut n: u16 = 3;
-    while 0 < left {
-        let e = lexer::comma_or(classes, text, q, b')');
+    for _left in (0..records::LIST_TURNS).rev() {
+        let e = lexer::comma_or(text, q, b')');
         let q1 = e.p;
         if e.more {
-            let q2 = lexer::skip_keyword(classes, text, q1, b"inrange");
-            let x = pair_child(classes, text, words, q2, n, depth);
+            let q2 = lexer::skip_keyword(text, q1, b"inrange");
+            let x = pair_child(text, words, q2, n, depth);
             q = x.p;
             n = x.n;
-            left -= 1;
         } else {
             return Listed { p: q1, n, dots: 0 };
         }
@@ -129,23 +115,21 @@ fn gep_indices(
 // A constant getelementptr, behind the word (`parse_ce_gep`).
 #[cycle(value_readers)]
 fn parse_ce_gep(
-    classes: &[u8; 256],
     text: &[u8],
     words: &mut [u64],
     p: Parsed,
     depth: usize,
 ) -> Parsed
-    requires { Classes classes.now }
     ensures { Leads (parse_ce_gep (parse_type depth) (parse_value depth)) 1 [] (made same text.now p) text.now p p words.old result words.new }
 {
-    let f = value_leaves::parse_gep_flags(classes, text, p);
+    let f = value_leaves::parse_gep_flags(text, p);
     let q = f.p;
     let q1 = node_words::push(words, q, 0);
-    let q2 = lexer::expect_token(classes, text, q1, b'(');
-    let q3 = types::parse_type(classes, text, words, q2, depth);
-    let q4 = lexer::expect_token(classes, text, q3, b',');
-    let q5 = parse_typed_val(classes, text, words, q4, depth);
-    let l = gep_indices(classes, text, words, q5, depth);
+    let q2 = lexer::expect_token(text, q1, b'(');
+    let q3 = types::parse_type(text, words, q2, depth);
+    let q4 = lexer::expect_token(text, q3, b',');
+    let q5 = parse_typed_val(text, words, q4, depth);
+    let l = gep_indices(text, words, q5, depth);
     let q6 = l.p;
     node_words::close(words, p, q6, records::K_GEP_EXPR, f.v, l.n)
 }
@@ -153,73 +137,67 @@ fn parse_ce_gep(
 // A conversion of a constant, behind the word (`parse_ce_conv_body`).
 #[cycle(value_readers)]
 fn parse_ce_conv(
-    classes: &[u8; 256],
     text: &[u8],
     words: &mut [u64],
     p: Parsed,
     op: u8,
     depth: usize,
 ) -> Parsed
-    requires { Classes classes.now }
     ensures { Leads (parse_ce_conv op (parse_type depth) (parse_value depth)) 1 [] (made same text.now p) text.now p p words.old result words.new }
 {
     let q = node_words::push(words, p, 0);
-    let q1 = lexer::expect_token(classes, text, q, b'(');
-    let q2 = parse_typed_val(classes, text, words, q1, depth);
-    let q3 = lexer::expect_keyword(classes, text, q2, b"to");
-    let q4 = types::parse_type(classes, text, words, q3, depth);
-    let q5 = lexer::expect_token(classes, text, q4, b')');
+    let q1 = lexer::expect_token(text, q, b'(');
+    let q2 = parse_typed_val(text, words, q1, depth);
+    let q3 = lexer::expect_keyword(text, q2, b"to");
+    let q4 = types::parse_type(text, words, q3, depth);
+    let q5 = lexer::expect_token(text, q4, b')');
     node_words::close(words, p, q5, records::K_CONV_EXPR, op, 3)
 }
 
 // An operation on two constants, behind the word.
 #[cycle(value_readers)]
 fn parse_ce_bin(
-    classes: &[u8; 256],
     text: &[u8],
     words: &mut [u64],
     p: Parsed,
     op: u8,
     depth: usize,
 ) -> Parsed
-    requires { Classes classes.now }
     ensures { Leads (parse_ce_bin op (parse_type depth) (parse_value depth)) 1 [] (made same text.now p) text.now p p words.old result words.new }
 {
     let q = node_words::push(words, p, 0);
-    let q1 = attributes::skip_arith_flags(classes, text, q);
-    let q2 = lexer::expect_token(classes, text, q1, b'(');
-    let q3 = parse_typed_val(classes, text, words, q2, depth);
-    let q4 = lexer::expect_token(classes, text, q3, b',');
-    let q5 = parse_typed_val(classes, text, words, q4, depth);
-    let q6 = lexer::expect_token(classes, text, q5, b')');
+    let q1 = attributes::skip_arith_flags(text, q);
+    let q2 = lexer::expect_token(text, q1, b'(');
+    let q3 = parse_typed_val(text, words, q2, depth);
+    let q4 = lexer::expect_token(text, q3, b',');
+    let q5 = parse_typed_val(text, words, q4, depth);
+    let q6 = lexer::expect_token(text, q5, b')');
     node_words::close(words, p, q6, records::K_BIN_EXPR, op, 4)
 }
 
 // Constant expressions, or 6.
 #[cycle(value_readers)]
 fn const_exprs(
-    classes: &[u8; 256],
     text: &[u8],
     words: &mut [u64],
     p: Parsed,
     depth: usize,
 ) -> Parsed
-    requires { Classes classes.now }
     ensures { Reads (const_exprs (parse_type depth) (parse_value depth)) text.now p words.old result words.new }
 {
-    if lexer::word(classes, text, p, b"getelementptr") {
+    if lexer::word(text, p, b"getelementptr") {
         let q = lexer::pass_word(text, p, b"getelementptr");
-        return parse_ce_gep(classes, text, words, q, depth);
+        return parse_ce_gep(text, words, q, depth);
     }
-    let c = value_leaves::match_conv_op(classes, text, p);
+    let c = value_leaves::match_conv_op(text, p);
     let q = c.p;
     if c.hit {
-        return parse_ce_conv(classes, text, words, q, c.r, depth);
+        return parse_ce_conv(text, words, q, c.r, depth);
     }
-    let b = value_leaves::match_bin_op(classes, text, q);
+    let b = value_leaves::match_bin_op(text, q);
     let q1 = b.p;
     if b.hit {
-        return parse_ce_bin(classes, text, words, q1, b.r, depth);
+        return parse_ce_bin(text, words, q1, b.r, depth);
     }
     lexer::refuse(q1, records::Q_VALUE)
 }
@@ -227,20 +205,18 @@ fn const_exprs(
 // A value (`parse_value`).
 #[cycle(value_readers)]
 pub fn parse_value(
-    classes: &[u8; 256],
     text: &[u8],
     words: &mut [u64],
     p: Parsed,
     depth: usize,
 ) -> Parsed
-    requires { Classes classes.now }
     ensures { Reads (parse_value depth) text.now p words.old result words.new }
 {
-    let q = lexer::eat_ws(classes, text, p);
+    let q = lexer::eat_ws(text, p);
     if depth == 0 {
         return lexer::refuse(q, records::Q_DEPTH);
     }
-    let h = value_leaves::leaf_value(classes, text, words, q);
+    let h = value_leaves::leaf_value(text, words, q);
     let r = h.p;
     if h.hit {
         return r;
@@ -248,7 +224,6 @@ pub fn parse_value(
     if lexer::looks(text, q, b'[') {
         let q1 = lexer::pass(text, q, 1);
         return aggregate(
-            classes,
             text,
             words,
             q1,
@@ -260,7 +235,6 @@ pub fn parse_value(
     if lexer::looks(text, q, b'{') {
         let q1 = lexer::pass(text, q, 1);
         return aggregate(
-            classes,
             text,
             words,
             q1,
@@ -272,9 +246,9 @@ pub fn parse_value(
     if lexer::looks(text, q, b'<') {
         let at = lexer::place(q);
         let q1 = lexer::pass(text, q, 1);
-        return packed_const(classes, text, words, q1, at, depth - 1);
+        return packed_const(text, words, q1, at, depth - 1);
     }
-    const_exprs(classes, text, words, q, depth - 1)
+    const_exprs(text, words, q, depth - 1)
 }
 
 // How many children there are behind a typed value.
@@ -287,25 +261,23 @@ pub struct Pair {
 // A type and a value as the next children of a list, which has n so far.
 #[cycle(value_readers)]
 pub fn pair_child(
-    classes: &[u8; 256],
     text: &[u8],
     words: &mut [u64],
     p: Parsed,
     n: u16,
     depth: usize,
 ) -> Pair
-    requires { Classes classes.now }
     ensures { Reads (pair_child (parse_type depth) (parse_value depth) n) text.now p words.old result.p words.new × Counts result.p result.n (n + 2) }
 {
     if depth == 0 {
-        let q = lexer::eat_ws(classes, text, p);
+        let q = lexer::eat_ws(text, p);
         let q1 = lexer::refuse(q, records::Q_DEPTH);
         return Pair { p: q1, n };
     }
-    let r = types::parse_type(classes, text, words, p, depth);
+    let r = types::parse_type(text, words, p, depth);
     let r1 = lexer::count_child(r, n);
     let k = types::one_more(n);
-    let r2 = parse_value(classes, text, words, r1, depth);
+    let r2 = parse_value(text, words, r1, depth);
     let r3 = lexer::count_child(r2, k);
     let m = types::one_more(k);
     Pair { p: r3, n: m }
@@ -314,19 +286,17 @@ pub fn pair_child(
 // A type and a value (`parse_typed_val`).
 #[cycle(value_readers)]
 pub fn parse_typed_val(
-    classes: &[u8; 256],
     text: &[u8],
     words: &mut [u64],
     p: Parsed,
     depth: usize,
 ) -> Parsed
-    requires { Classes classes.now }
     ensures { Reads (parse_typed_val depth) text.now p words.old result words.new }
 {
     if depth == 0 {
-        let q = lexer::eat_ws(classes, text, p);
+        let q = lexer::eat_ws(text, p);
         return lexer::refuse(q, records::Q_DEPTH);
     }
-    let q = types::parse_type(classes, text, words, p, depth);
-    parse_value(classes, text, words, q, depth)
+    let q = types::parse_type(text, words, p, depth);
+    parse_value(text, words, q, depth)
 }

@@ -30,14 +30,14 @@ pub loop-left-preserved-then-word : goal.loop-left-preserved-then-word
 unfolding clauses_in align_of
 loop-left-preserved-then-word c = (
   go_on c.loop-left.invariant.0
-      (λ ws. more (λ u. counting u (counted c.loop-left.n ws) (align_of c.loop-left.has c.loop-left.v)) c.loop-left.left c.loop-left-test.true
+      (λ ws. more (λ u. counting u (counted c.loop-left.n ws) (align_of c.loop-left.has c.loop-left.v)) c.loop-left._left c.loop-left-test.true
       (token_yes _ _ c.eat_ws-q.ensures c.looks.ensures c.if-looks.true c.pass-q.ensures
       (val _ c.eat_ws-q-then-looks.ensures
       (word_yes _ _ c.word.ensures c.if-word.true c.pass_word-q.ensures
       (val _ c.eat_ws-q-then-word.ensures
       (val _ c.parse_int-k.ensures
       (stay
-      (λ ws. counting (c.loop-left.left - 1) (counted c.loop-left.n ws) (align_of 1 _))))))))),
+      (λ ws. counting (c.loop-left._left - 1) (counted c.loop-left.n ws) (align_of 1 _))))))))),
   c.loop-left.invariant.1,
 )
 
@@ -48,14 +48,14 @@ pub loop-left-preserved-then-looks-2 : goal.loop-left-preserved-then-looks-2
 unfolding clauses_in
 loop-left-preserved-then-looks-2 c = (
   go_on c.loop-left.invariant.0
-      (λ ws. more (λ u. counting u (counted c.loop-left.n ws) (align_of c.loop-left.has c.loop-left.v)) c.loop-left.left c.loop-left-test.true
+      (λ ws. more (λ u. counting u (counted c.loop-left.n ws) (align_of c.loop-left.has c.loop-left.v)) c.loop-left._left c.loop-left-test.true
       (token_yes _ _ c.eat_ws-q.ensures c.looks.ensures c.if-looks.true c.pass-q.ensures
       (val _ c.eat_ws-q-then-looks.ensures
       (word_no _ _ c.word.ensures c.if-word.false
       (byte_yes _ _ c.looks-else-word.ensures c.if-looks-2.true c.pass-q-then-looks-2.ensures
       (val _ c.skip_metadata_ref-q.ensures
       (stay
-      (λ ws. counting (c.loop-left.left - 1) (counted c.loop-left.n ws) (align_of c.loop-left.has c.loop-left.v))))))))),
+      (λ ws. counting (c.loop-left._left - 1) (counted c.loop-left.n ws) (align_of c.loop-left.has c.loop-left.v))))))))),
   c.loop-left.invariant.1,
 )
 
@@ -66,7 +66,7 @@ pub loop-left-preserved : goal.loop-left-preserved
 unfolding clauses_in counted
 loop-left-preserved c = (
   go_on c.loop-left.invariant.0
-      (λ ws. more (λ u. counting u (counted c.loop-left.n ws) (align_of c.loop-left.has c.loop-left.v)) c.loop-left.left c.loop-left-test.true
+      (λ ws. more (λ u. counting u (counted c.loop-left.n ws) (align_of c.loop-left.has c.loop-left.v)) c.loop-left._left c.loop-left-test.true
       (token_yes _ _ c.eat_ws-q.ensures c.looks.ensures c.if-looks.true c.pass-q.ensures
       (val _ c.eat_ws-q-then-looks.ensures
       (word_no _ _ c.word.ensures c.if-word.false
@@ -74,7 +74,7 @@ loop-left-preserved c = (
       (rewind c.resume-q.ensures
       (then _ c.parse_typed_val-q.ensures
       (λ x. stay
-      (λ ws. counting (c.loop-left.left - 1) (counted 1 ws) (align_of c.loop-left.has c.loop-left.v)))))))))),
+      (λ ws. counting (c.loop-left._left - 1) (counted 1 ws) (align_of c.loop-left.has c.loop-left.v)))))))))),
   c.parse_typed_val-q.auto.words ∙ c.loop-left.invariant.1,
 )
 
@@ -85,7 +85,7 @@ pub returns-else-looks : goal.returns-else-looks
 unfolding clauses_in
 returns-else-looks c =
     go_on c.loop-left.invariant.0
-    (λ ws. more (λ u. counting u (counted c.loop-left.n ws) (align_of c.loop-left.has c.loop-left.v)) c.loop-left.left c.loop-left-test.true
+    (λ ws. more (λ u. counting u (counted c.loop-left.n ws) (align_of c.loop-left.has c.loop-left.v)) c.loop-left._left c.loop-left-test.true
     (token_no _ _ c.eat_ws-q.ensures c.looks.ensures c.if-looks.false done))
 
 pub shape_of-words : goal.shape_of-words
@@ -96,4 +96,4 @@ unfolding clauses_in
 returns c =
     go_on c.loop-left.invariant.0
     (λ ws. no_more (λ u. counting u (counted c.loop-left.n ws)
-    (align_of c.loop-left.has c.loop-left.v)) c.loop-left.left c.loop-left-test.false done)
+    (align_of c.loop-left.has c.loop-left.v)) c.loop-left._left c.loop-left-test.false done)

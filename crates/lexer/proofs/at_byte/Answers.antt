@@ -1,11 +1,14 @@
--- Inside the text the byte at a place is the first of what is left there; behind its end stands 256, which is no byte.
-use mathlib.Core.Path.{sym}
+-- Inside the text there is a byte to compare; past its end there is none.
+use mathlib.Core.Path.{sym, ◌∙◌, ap}
+use native.Mathlib.Omega.{arith}
+use lib.Dec.{eqb}
 use Rattle.lexer.proofs.Scan.{byte_in, byte_out}
-use borrow.Author.Rules.{rules}
 use Rattle.lexer.proofs.at_byte.Goals as goal
 
-pub returns-then-at-text : goal.returns-then-at-text
-returns-then-at-text c = sym (byte_in _ _ _ (search rules) c.if-at-text.true)
+pub returns-in-Some : goal.returns-in-Some
+returns-in-Some c =
+    let h = c.in-Some.ensures.lookup.3 in
+    sym (byte_in c.args.text.now c.args.at c.args.b (omega arith) h.0 ∙ ap (λ x. eqb x c.args.b) (sym (h.1 0)))
 
-pub returns-else-at-text : goal.returns-else-at-text
-returns-else-at-text c = sym (byte_out _ _ _ (search rules) c.if-at-text.false)
+pub returns-in-None : goal.returns-in-None
+returns-in-None c = sym (byte_out c.args.text.now c.args.at c.args.b (omega arith) c.in-None.ensures.lookup.3)

@@ -1,12 +1,13 @@
 -- White space is one scan, and `space_end` is the place where it stops.
+use borrow.Author.Rules.{rules}
 use Rattle.grammar.specs.Lexer.{eat_ws}
 use Rattle.program.specs.Prog.{run}
-use Rattle.lexer.proofs.Laws.{given, kept}
+use Rattle.lexer.proofs.Laws.{given, handed}
 use Rattle.lexer.proofs.eat_ws.Goals as goal
 
-pub returns-in-Ok : goal.returns-in-Ok
+pub returns : goal.returns
 unfolding eat_ws run
-returns-in-Ok c = rw c.in-Ok.is (given _ _ (λ i. rw c.space_end-i.ensures))
+returns c = rw c.in_ok-c.was (given _ _ (λ i. rw c.space_end-at.ensures))
 
-pub returns-in-Refused : goal.returns-in-Refused
-returns-in-Refused c = rw c.in-Refused.is (kept _ _)
+pub returns-in_err-c : goal.returns-in_err-c
+returns-in_err-c c = handed c.in_err-c.was (search rules)

@@ -8,4 +8,4 @@ pub returns : goal.returns
 unfolding skip_one
 returns c =
     g_then _ c.eat_ws-q.ensures
-    (g_rank_any _ _ _ c.match_rank-k.ensures (λ h. g_done) (λ h. g_done))
+    (g_rank_any _ _ _ c.match_rank.ensures (λ h. g_done) (λ h. g_done))

@@ -1,6 +1,6 @@
 use mathlib.Core.Path.{sym, ◌∙◌}
 use Rattle.grammar.specs.Lexer.{name_step}
-use Rattle.lexer.proofs.Scan.{scan_out}
+use Rattle.lexer.proofs.Scan.{scan_out, end_at}
 use Rattle.lexer_names.proofs.Strings.{name_more, name_stop}
 use Rattle.lexer_names.proofs.name_end.Goals as goal
 
@@ -13,4 +13,6 @@ pub loop-i-preserved : goal.loop-i-preserved
 loop-i-preserved c = c.loop-i.invariant ∙ name_more _ _ _ c.loop-i-test.true c.class.ensures c.if-class-gt-NAME.false
 
 pub returns : goal.returns
-returns c = sym (c.loop-i.invariant ∙ scan_out name_step _ _ _ c.loop-i-test.false)
+returns c =
+    let e = c.loop-i.invariant ∙ scan_out name_step _ _ _ c.loop-i-test.false in
+    end_at name_step 0 _ c.loop-i.auto.i c.loop-i-test.false c.max.ensures e ∙ sym e

@@ -8,4 +8,4 @@ pub returns-then-x : goal.returns-then-x
 returns-then-x c = λ text p w l. name_none _ _ (sym w.none ∙ c.if-x.true) (g_fail _ c.refuse-q2.ensures)
 
 pub returns : goal.returns
-returns c = λ text p w l. name_some _ _ _ _ _ c.minus-n.ensures w.size (sym w.none ∙ c.if-x.false) l c.pack_word-v.ensures
+returns c = λ text p w l. name_some _ _ _ _ _ c.saturating_sub-n.ensures w.size (sym w.none ∙ c.if-x.false) l c.pack_word-v.ensures

@@ -1,49 +1,6 @@
--- A quote at the cursor, or none: the word is what the automaton passes, and it is empty where its end is its start.
-use native.Mathlib.Omega.{arith}
-use mathlib.Core.Path.{sym, ◌∙◌}
-use Rattle.lexer.proofs.Scan.{byte_inside}
-use Rattle.lexer_names.proofs.Strings.{word_plain, word_none, word_kept, word_quoted, quote_bad, quote_open}
+-- At a cursor by `word_at`; a refusal is handed on.
+use Rattle.lexer_names.proofs.Strings.{word_kept}
 use Rattle.lexer_names.proofs.read_word.Goals as goal
 
-pub overflow_add-from : goal.overflow_add-from
-overflow_add-from c =
-    omega (
-      arith,
-      byte_inside c.args.text.now c.in-Ok.c.at 34
-          (sym c.at_byte.ensures ∙ c.if-at_byte.true),
-    )
-
-pub returns-then-x-ne0 : goal.returns-then-x-ne0
-returns-then-x-ne0 c =
-    rw (c.in-Ok.is, c.no_word.ensures)
-    (word_none _ _ _ _
-    (quote_bad _ c.in-Ok.c (sym c.at_byte.ensures ∙ c.if-at_byte.true) _ c.string_end-x.ensures c.if-x-ne0.true))
-
-pub overflow_add-end : goal.overflow_add-end
-overflow_add-end c =
-    omega (
-      arith,
-      byte_inside c.args.text.now c.string_end-x.result.at 34
-          (sym c.at_byte-then-at_byte.ensures ∙ c.if-at_byte-2.true),
-    )
-
-pub returns-then-at_byte-2 : goal.returns-then-at_byte-2
-returns-then-at_byte-2 c =
-    rw c.in-Ok.is
-    (word_quoted _ _ (sym c.at_byte.ensures ∙ c.if-at_byte.true) _ c.string_end-x.ensures c.if-x-ne0.false
-    (sym c.at_byte-then-at_byte.ensures ∙ c.if-at_byte-2.true))
-
-pub returns-then-at_byte : goal.returns-then-at_byte
-returns-then-at_byte c =
-    rw (c.in-Ok.is, c.no_word-then-at_byte.ensures)
-    (word_none _ _ _ _
-    (quote_open _ c.in-Ok.c (sym c.at_byte.ensures ∙ c.if-at_byte.true) _ c.string_end-x.ensures c.if-x-ne0.false
-    (sym c.at_byte-then-at_byte.ensures ∙ c.if-at_byte-2.false)))
-
-pub returns-else-at_byte : goal.returns-else-at_byte
-returns-else-at_byte c =
-    rw c.in-Ok.is
-    (word_plain _ _ _ (sym c.at_byte.ensures ∙ c.if-at_byte.false) c.name_end-i.ensures)
-
-pub returns-in-Refused : goal.returns-in-Refused
-returns-in-Refused c = rw (c.in-Refused.is, c.no_word-in-Refused.ensures) (word_kept _ _ _)
+pub returns-in-Err : goal.returns-in-Err
+returns-in-Err c = rw (c.in-Err.is, c.no_word.ensures) (word_kept _ _ _)

@@ -3,7 +3,7 @@ use borrow.Author.Tests.{lt-ltb, le-ltb}
 use Rattle.node_words.proofs.header_of.Goals as goal
 
 pub returns-then-size-lt-HALF_LIMIT : goal.returns-then-size-lt-HALF_LIMIT
-returns-then-size-lt-HALF_LIMIT c = rw (← c.minus-size.ensures, lt-ltb _ _ c.if-size-lt-HALF_LIMIT.true)
+returns-then-size-lt-HALF_LIMIT c = rw (← c.saturating_sub-size.ensures, lt-ltb _ _ c.if-size-lt-HALF_LIMIT.true)
 
 pub returns-else-size-lt-HALF_LIMIT : goal.returns-else-size-lt-HALF_LIMIT
-returns-else-size-lt-HALF_LIMIT c = rw (← c.minus-size.ensures, le-ltb _ _ c.if-size-lt-HALF_LIMIT.false)
+returns-else-size-lt-HALF_LIMIT c = rw (← c.saturating_sub-size.ensures, le-ltb _ _ c.if-size-lt-HALF_LIMIT.false)

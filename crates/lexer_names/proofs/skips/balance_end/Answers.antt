@@ -1,7 +1,7 @@
 use mathlib.Core.Path.{refl, sym, ◌∙◌}
 use native.Mathlib.Omega.{arith}
 use Rattle.grammar.specs.Lexer.{balance_step}
-use Rattle.lexer.proofs.Scan.{scan_out}
+use Rattle.lexer.proofs.Scan.{scan_out, end_at}
 use Rattle.lexer_names.proofs.Strings.{balance_left, balance_other, balance_right, balance_stop}
 use Rattle.lexer_names.proofs.skips.balance_end.Goals as goal
 use Rattle.lexer_names.proofs.skips.balance_end.Goals.{then-b-left, else-b-left+then-b-right+else-q-eq0, else-b-left+else-b-right}
@@ -29,4 +29,6 @@ loop-i-preserved c =
     ]
 
 pub returns : goal.returns
-returns c = sym (c.loop-i.invariant.1 ∙ scan_out (balance_step _ _) _ _ _ c.loop-i-test.false)
+returns c =
+    let e = c.loop-i.invariant.1 ∙ scan_out (balance_step _ _) _ _ _ c.loop-i-test.false in
+    end_at (balance_step _ _) 0 _ c.loop-i.auto.i c.loop-i-test.false c.max.ensures e ∙ sym e
