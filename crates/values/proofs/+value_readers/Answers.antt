@@ -22,27 +22,27 @@ const_exprs-returns-then-word bound c =
     word_yes _ _ c.word.ensures c.if-word.true c.pass_word-q.ensures
     (call 1 (omega arith) c.parse_ce_gep.ensures)
 
-pub const_exprs-returns-then-c : goal.const_exprs-returns-then-c
+pub const_exprs-returns-in-Some : goal.const_exprs-returns-in-Some
 unfolding const_exprs conv_ops bin_ops
-const_exprs-returns-then-c bound c =
+const_exprs-returns-in-Some bound c =
     word_no _ _ c.word.ensures c.if-word.false
-    (rank_paid _ _ _ (c.match_conv_op-c.ensures.yes c.if-c.true).1 tt (c.match_conv_op-c.ensures.yes c.if-c.true).0
+    (rank_paid _ _ _ (c.match_op-c.ensures.yes _ c.in-Some.is).1 tt (c.match_op-c.ensures.yes _ c.in-Some.is).0
     (call 1 (omega arith) c.parse_ce_conv.ensures))
 
-pub const_exprs-returns-then-b : goal.const_exprs-returns-then-b
+pub const_exprs-returns-in-Some-2 : goal.const_exprs-returns-in-Some-2
 unfolding const_exprs conv_ops bin_ops
-const_exprs-returns-then-b bound c =
+const_exprs-returns-in-Some-2 bound c =
     word_no _ _ c.word.ensures c.if-word.false
-    (rank_no _ _ _ (c.match_conv_op-c.ensures.no c.if-c.false).2 (c.match_conv_op-c.ensures.no c.if-c.false).1
-    (rank_paid _ _ _ (c.match_bin_op-b.ensures.yes c.if-b.true).1 tt (c.match_bin_op-b.ensures.yes c.if-b.true).0
+    (rank_no _ _ _ (c.match_op-c.ensures.no c.in-None.is).2 (c.match_op-c.ensures.no c.in-None.is).1
+    (rank_paid _ _ _ (c.match_op-b.ensures.yes _ c.in-Some-2.is).1 tt (c.match_op-b.ensures.yes _ c.in-Some-2.is).0
     (call 1 (omega arith) c.parse_ce_bin.ensures)))
 
 pub const_exprs-returns : goal.const_exprs-returns
 unfolding const_exprs conv_ops bin_ops
 const_exprs-returns bound c =
     word_no _ _ c.word.ensures c.if-word.false
-    (rank_no _ _ _ (c.match_conv_op-c.ensures.no c.if-c.false).2 (c.match_conv_op-c.ensures.no c.if-c.false).1
-    (rank_no _ _ _ (c.match_bin_op-b.ensures.no c.if-b.false).2 (c.match_bin_op-b.ensures.no c.if-b.false).1 (fail_is _ c.refuse.ensures)))
+    (rank_no _ _ _ (c.match_op-c.ensures.no c.in-None.is).2 (c.match_op-c.ensures.no c.in-None.is).1
+    (rank_no _ _ _ (c.match_op-b.ensures.no c.in-None-2.is).2 (c.match_op-b.ensures.no c.in-None-2.is).1 (fail_is _ c.refuse.ensures)))
 
 pub gep_indices-loop-left-init : goal.gep_indices-loop-left-init
 gep_indices-loop-left-init bound c =
