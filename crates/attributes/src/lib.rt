@@ -1,5 +1,5 @@
 // Attributes, linkage, calling conventions and flags: what is read and dropped (parser.rs, "Attribute / token skipping helpers").
-// A table is one byte string with its words one behind the other, and their lengths.
+// Each table of words stands before the function that searches it.
 #![tactic(auto)]
 
 ghost use Rattle.std.specs.Prelude.{◌≡◌, ◌+◌, drop};
@@ -20,99 +20,195 @@ const UNWRITTEN: usize = records::NO_LINKAGE as usize;
 // The rank of `dead_on_return` in `PAREN_ATTRS`.
 const DEAD_ON_RETURN: usize = 18;
 
+static PAREN_ATTRS: [&[u8]; 19] = [
+    b"captures",
+    b"memory",
+    b"range",
+    b"dereferenceable",
+    b"dereferenceable_or_null",
+    b"byval",
+    b"byref",
+    b"sret",
+    b"inalloca",
+    b"preallocated",
+    b"elementtype",
+    b"alignstack",
+    b"allocsize",
+    b"allockind",
+    b"vscale_range",
+    b"nofpclass",
+    b"addrspace",
+    b"initializes",
+    b"dead_on_return",
+];
+
 // An attribute with parentheses behind it (`PAREN_ATTRS`).
 fn paren_attr(text: &[u8], p: Parsed) -> Ranked
     ensures { (result.r ≡ rank_p paren_attrs text.now p) × (result.p ≡ ranked_p paren_attrs text.now p) }
 {
-    let lens: [u8; 19] = [
-        8, 6, 5, 15, 23, 5, 5, 4, 8, 12, 11, 10, 9, 9, 12, 9, 9, 11, 14,
-    ];
-    lexer_keywords::match_rank(
-        text,
-        p,
-        &lens,
-        b"capturesmemoryrangedereferenceabledereferenceable_or_nullbyvalbyrefsretinallocapreallocatedelementtypealignstackallocsizeallockindvscale_rangenofpclassaddrspaceinitializesdead_on_return",
-    )
+    lexer_keywords::match_rank(text, p, &PAREN_ATTRS)
 }
+
+static FLAG_ATTRS: [&[u8]; 64] = [
+    b"private",
+    b"internal",
+    b"available_externally",
+    b"linkonce",
+    b"linkonce_odr",
+    b"weak",
+    b"weak_odr",
+    b"appending",
+    b"common",
+    b"extern_weak",
+    b"external",
+    b"hidden",
+    b"protected",
+    b"default",
+    b"dso_local",
+    b"dso_preemptable",
+    b"unnamed_addr",
+    b"local_unnamed_addr",
+    b"comdat",
+    b"noundef",
+    b"nonnull",
+    b"signext",
+    b"zeroext",
+    b"inreg",
+    b"noalias",
+    b"nocapture",
+    b"readonly",
+    b"readnone",
+    b"writeonly",
+    b"immarg",
+    b"returned",
+    b"nest",
+    b"writable",
+    b"dead_on_unwind",
+    b"dead_on_return",
+    b"nounwind",
+    b"nofree",
+    b"mustprogress",
+    b"willreturn",
+    b"norecurse",
+    b"nosync",
+    b"nocallback",
+    b"uwtable",
+    b"noreturn",
+    b"noinline",
+    b"alwaysinline",
+    b"inlinehint",
+    b"optsize",
+    b"optnone",
+    b"minsize",
+    b"cold",
+    b"hot",
+    b"convergent",
+    b"speculatable",
+    b"nobuiltin",
+    b"noimplicitfloat",
+    b"noredzone",
+    b"strictfp",
+    b"ssp",
+    b"sspstrong",
+    b"sspreq",
+    b"sanitize_address",
+    b"sanitize_memory",
+    b"sanitize_thread",
+];
 
 // An attribute that is a word alone (`FLAG_ATTRS`).
 fn flag_attr(text: &[u8], p: Parsed) -> Ranked
     ensures { (result.r ≡ rank_p flag_attrs text.now p) × (result.p ≡ ranked_p flag_attrs text.now p) }
 {
-    let lens: [u8; 64] = [
-        7, 8, 20, 8, 12, 4, 8, 9, 6, 11, 8, 6, 9, 7, 9, 15, 12, 18, 6, 7, 7, 7, 7, 5, 7, 9, 8, 8,
-        9, 6, 8, 4, 8, 14, 14, 8, 6, 12, 10, 9, 6, 10, 7, 8, 8, 12, 10, 7, 7, 7, 4, 3, 10, 12, 9,
-        15, 9, 8, 3, 9, 6, 16, 15, 15,
-    ];
-    lexer_keywords::match_rank(
-        text,
-        p,
-        &lens,
-        b"privateinternalavailable_externallylinkoncelinkonce_odrweakweak_odrappendingcommonextern_weakexternalhiddenprotecteddefaultdso_localdso_preemptableunnamed_addrlocal_unnamed_addrcomdatnoundefnonnullsignextzeroextinregnoaliasnocapturereadonlyreadnonewriteonlyimmargreturnednestwritabledead_on_unwinddead_on_returnnounwindnofreemustprogresswillreturnnorecursenosyncnocallbackuwtablenoreturnnoinlinealwaysinlineinlinehintoptsizeoptnoneminsizecoldhotconvergentspeculatablenobuiltinnoimplicitfloatnoredzonestrictfpsspsspstrongsspreqsanitize_addresssanitize_memorysanitize_thread",
-    )
+    lexer_keywords::match_rank(text, p, &FLAG_ATTRS)
 }
+
+static LINKAGES: [&[u8]; 11] = [
+    b"private",
+    b"internal",
+    b"available_externally",
+    b"linkonce",
+    b"weak",
+    b"common",
+    b"appending",
+    b"extern_weak",
+    b"linkonce_odr",
+    b"weak_odr",
+    b"external",
+];
 
 // A linkage, in ast.rs order.
 fn linkage(text: &[u8], p: Parsed) -> Ranked
     ensures { (result.r ≡ rank_p linkages text.now p) × (result.p ≡ ranked_p linkages text.now p) }
 {
-    let lens: [u8; 11] = [7, 8, 20, 8, 4, 6, 9, 11, 12, 8, 8];
-    lexer_keywords::match_rank(
-        text,
-        p,
-        &lens,
-        b"privateinternalavailable_externallylinkonceweakcommonappendingextern_weaklinkonce_odrweak_odrexternal",
-    )
+    lexer_keywords::match_rank(text, p, &LINKAGES)
 }
+
+static CALLING_CONVENTIONS: [&[u8]; 10] = [
+    b"ccc",
+    b"fastcc",
+    b"coldcc",
+    b"tailcc",
+    b"swiftcc",
+    b"swifttailcc",
+    b"anyregcc",
+    b"preserve_mostcc",
+    b"preserve_allcc",
+    b"cxx_fast_tlscc",
+];
 
 // A calling convention (`CCONVS`).
 fn cconv(text: &[u8], p: Parsed) -> Ranked
     ensures { (result.r ≡ rank_p calling_conventions text.now p) × (result.p ≡ ranked_p calling_conventions text.now p) }
 {
-    let lens: [u8; 10] = [3, 6, 6, 6, 7, 11, 8, 15, 14, 14];
-    lexer_keywords::match_rank(
-        text,
-        p,
-        &lens,
-        b"cccfastcccoldcctailccswiftccswifttailccanyregccpreserve_mostccpreserve_allcccxx_fast_tlscc",
-    )
+    lexer_keywords::match_rank(text, p, &CALLING_CONVENTIONS)
 }
+
+static NO_ATTRS: [&[u8]; 8] = [
+    b"ptr", b"void", b"br", b"ret", b"store", b"call", b"tail", b"switch",
+];
 
 // Words that often stand where an attribute might, and are none: types, and words that begin a statement.
 fn no_attr(text: &[u8], p: Parsed) -> Ranked
     ensures { (result.r ≡ rank_p no_attrs text.now p) × (result.p ≡ ranked_p no_attrs text.now p) }
 {
-    let lens: [u8; 8] = [3, 4, 2, 3, 5, 4, 4, 6];
-    lexer_keywords::match_rank(text, p, &lens, b"ptrvoidbrretstorecalltailswitch")
+    lexer_keywords::match_rank(text, p, &NO_ATTRS)
 }
+
+static ARITH_FLAGS: [&[u8]; 4] = [b"nuw", b"nsw", b"exact", b"disjoint"];
 
 // Flags of integer arithmetic.
 pub fn skip_arith_flags(text: &[u8], p: Parsed) -> Parsed
     ensures { Gives skip_arith_flags tt text.now p result }
 {
-    let lens: [u8; 4] = [3, 3, 5, 8];
-    lexer_keywords::skip_all(text, p, &lens, b"nuwnswexactdisjoint")
+    lexer_keywords::skip_all(text, p, &ARITH_FLAGS)
 }
+
+static FAST_MATH_FLAGS: [&[u8]; 8] = [
+    b"fast",
+    b"nnan",
+    b"ninf",
+    b"nsz",
+    b"arcp",
+    b"contract",
+    b"afn",
+    b"reassoc",
+];
 
 // Fast-math flags.
 pub fn skip_fast_math_flags(text: &[u8], p: Parsed) -> Parsed
     ensures { Gives skip_fast_math_flags tt text.now p result }
 {
-    let lens: [u8; 8] = [4, 4, 4, 3, 4, 8, 3, 7];
-    lexer_keywords::skip_all(
-        text,
-        p,
-        &lens,
-        b"fastnnanninfnszarcpcontractafnreassoc",
-    )
+    lexer_keywords::skip_all(text, p, &FAST_MATH_FLAGS)
 }
+
+static CONV_FLAGS: [&[u8]; 3] = [b"nneg", b"nuw", b"nsw"];
 
 // Flags of conversions.
 pub fn skip_conv_flags(text: &[u8], p: Parsed) -> Parsed
     ensures { Gives (skip_all turns conv_flags) tt text.now p result }
 {
-    let lens: [u8; 3] = [4, 3, 3];
-    lexer_keywords::skip_all(text, p, &lens, b"nnegnuwnsw")
+    lexer_keywords::skip_all(text, p, &CONV_FLAGS)
 }
 
 // A linkage's rank, 10 when unwritten (`parse_linkage`).
@@ -123,7 +219,7 @@ pub fn parse_linkage(text: &[u8], p: Parsed) -> Ranked
     let k = linkage(text, q);
     let r = k.r;
     let q1 = k.p;
-    if r < 11 {
+    if r < LINKAGES.len() {
         return Ranked { p: q1, r };
     }
     Ranked {
@@ -139,7 +235,7 @@ pub fn skip_call_cconv(text: &[u8], p: Parsed) -> Parsed
     let q = lexer::eat_ws(text, p);
     let k = cconv(text, q);
     let q1 = k.p;
-    if k.r < 10 {
+    if k.r < CALLING_CONVENTIONS.len() {
         return q1;
     }
     if lexer::word(text, q1, b"cc") {
@@ -155,28 +251,23 @@ pub fn skip_call_cconv(text: &[u8], p: Parsed) -> Parsed
 fn group_end(text: &[u8], at: usize) -> usize
     ensures { result ≡ at + scan_len group_step 0 (drop at text.now) }
 {
-    let mut i = at;
-    while i < text.len() {
+    for i in at..text.len() {
         if limits::DIGIT <= lexer::class(text[i]) {
             return i;
         }
-        i += 1;
     }
-    i
+    at.max(text.len())
 }
 
 // The digits behind `#`.
 fn skip_group(text: &[u8], p: Parsed) -> Parsed
     ensures { Gives group_digits tt text.now p result }
 {
-    match p {
-        Parsed::Ok(c) => {
-            let at = c.at;
-            let i = group_end(text, at);
-            Parsed::Ok(Cursor { at: i, w: c.w })
-        }
-        Parsed::Refused(e, q) => Parsed::Refused(e, q),
-    }
+    let c = p?;
+    Ok(Cursor {
+        at: group_end(text, c.at),
+        w: c.w,
+    })
 }
 
 // The parentheses behind a word of `PAREN_ATTRS`, by its rank; `dead_on_return` may stand without.
@@ -232,11 +323,8 @@ fn two_letters(text: &[u8], p: Parsed) -> bool
     ensures { result ≡ letters_p text.now p }
 {
     match p {
-        Parsed::Ok(c) => {
-            let at = c.at;
-            letters_at(text, at)
-        }
-        Parsed::Refused(e, q) => false,
+        Ok(c) => letters_at(text, c.at),
+        Err(_) => false,
     }
 }
 
@@ -263,13 +351,13 @@ fn attr_step(text: &[u8], p: Parsed) -> Passed
         return Passed { p: q4, more: true };
     }
     let n = no_attr(text, q);
-    if n.r < 8 {
+    if n.r < NO_ATTRS.len() {
         return Passed { p: q, more: false };
     }
     let k = paren_attr(text, q);
     let q5 = k.p;
     let r = k.r;
-    if r < 19 {
+    if r < PAREN_ATTRS.len() {
         let q6 = attr_parens(text, q5, r);
         return Passed { p: q6, more: true };
     }
@@ -283,7 +371,7 @@ fn attr_step(text: &[u8], p: Parsed) -> Passed
     let f = flag_attr(text, q5);
     let q10 = f.p;
     let s = f.r;
-    if s < 64 {
+    if s < FLAG_ATTRS.len() {
         return Passed { p: q10, more: true };
     }
     Passed {
@@ -297,13 +385,10 @@ pub fn skip_attrs(text: &[u8], p: Parsed) -> Parsed
     ensures { Gives skip_attrs tt text.now p result }
 {
     let mut q = p;
-    let mut left: usize = records::TURNS;
-    while 0 < left {
+    for _left in (0..records::TURNS).rev() {
         let s = attr_step(text, q);
         q = s.p;
-        if s.more {
-            left -= 1;
-        } else {
+        if !s.more {
             return q;
         }
     }

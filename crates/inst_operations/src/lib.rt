@@ -26,14 +26,7 @@ fn two_operands(text: &[u8], words: &mut [u64], p: Parsed) -> Parsed
 }
 
 // T V, V to the end of an operation or a comparison; the node was begun at p0.
-fn binary(
-    text: &[u8],
-    words: &mut [u64],
-    p0: Parsed,
-    p: Parsed,
-    kind: u8,
-    d: u8,
-) -> Parsed
+fn binary(text: &[u8], words: &mut [u64], p0: Parsed, p: Parsed, kind: u8, d: u8) -> Parsed
     ensures { (dest : ℕ) → Leads (binary kind d dest) 0 (0 ∷ dest ∷ []) (made same text.now p0) text.now p0 p words.old result words.new }
 {
     let q = two_operands(text, words, p);
@@ -41,13 +34,7 @@ fn binary(
 }
 
 // T V to the end; the node was begun at p0.
-fn unary(
-    text: &[u8],
-    words: &mut [u64],
-    p0: Parsed,
-    p: Parsed,
-    kind: u8,
-) -> Parsed
+fn unary(text: &[u8], words: &mut [u64], p0: Parsed, p: Parsed, kind: u8) -> Parsed
     ensures { (dest : ℕ) → Leads (unary kind dest) 0 (0 ∷ dest ∷ []) (made same text.now p0) text.now p0 p words.old result words.new }
 {
     let q = values::parse_typed_val(text, words, p, records::DEPTH_LIMIT);
@@ -55,13 +42,7 @@ fn unary(
 }
 
 // `add T V, V` and its like.
-pub fn parse_bin(
-    text: &[u8],
-    words: &mut [u64],
-    p: Parsed,
-    op: u8,
-    dest: u64,
-) -> Parsed
+pub fn parse_bin(text: &[u8], words: &mut [u64], p: Parsed, op: u8, dest: u64) -> Parsed
     ensures { Leads (parse_bin op dest) 2 [] (made same text.now p) text.now p p words.old result words.new }
 {
     let q = node_words::begin(words, p, dest);
@@ -70,13 +51,7 @@ pub fn parse_bin(
 }
 
 // `fadd T V, V` and its like.
-pub fn parse_fbin(
-    text: &[u8],
-    words: &mut [u64],
-    p: Parsed,
-    op: u8,
-    dest: u64,
-) -> Parsed
+pub fn parse_fbin(text: &[u8], words: &mut [u64], p: Parsed, op: u8, dest: u64) -> Parsed
     ensures { Leads (parse_fbin op dest) 2 [] (made same text.now p) text.now p p words.old result words.new }
 {
     let q = node_words::begin(words, p, dest);
@@ -85,12 +60,7 @@ pub fn parse_fbin(
 }
 
 // `fneg T V`
-pub fn parse_fneg(
-    text: &[u8],
-    words: &mut [u64],
-    p: Parsed,
-    dest: u64,
-) -> Parsed
+pub fn parse_fneg(text: &[u8], words: &mut [u64], p: Parsed, dest: u64) -> Parsed
     ensures { Leads (parse_fneg dest) 2 [] (made same text.now p) text.now p p words.old result words.new }
 {
     let q = node_words::begin(words, p, dest);
@@ -100,63 +70,48 @@ pub fn parse_fneg(
 
 // A predicate, as its rank.
 #[derive(Clone, Copy)]
-pub struct Pred {
-    pub p: Parsed,
-    pub r: u8,
+struct Pred {
+    p: Parsed,
+    r: u8,
 }
 
-// A predicate of `fcmp`, in ast.rs order.
-fn fcmp_rank(text: &[u8], p: Parsed) -> Ranked
-    ensures { (result.r ≡ rank_p fcmp_preds text.now p) × (result.p ≡ ranked_p fcmp_preds text.now p) }
-{
-    let lens: [u8; 16] = [5, 3, 3, 3, 3, 3, 3, 3, 3, 3, 3, 3, 3, 3, 3, 4];
-    lexer_keywords::match_rank(
-        text,
-        p,
-        &lens,
-        b"falseoeqogtogeoltoleoneorduequgtugeultuleuneunotrue",
-    )
-}
+// The predicates of `fcmp`, in ast.rs order.
+static FCMP_PREDICATES: [&[u8]; 16] = [
+    b"false", b"oeq", b"ogt", b"oge", b"olt", b"ole", b"one", b"ord", b"ueq", b"ugt", b"uge",
+    b"ult", b"ule", b"une", b"uno", b"true",
+];
 
-// `parse_fcmp_pred`
-pub fn parse_fcmp_pred(text: &[u8], p: Parsed) -> Pred
-    ensures { Gives (predicate fcmp_preds) result.r text.now p result.p }
+// A predicate of a table, by its rank (`parse_fcmp_pred`, `parse_icmp_pred`).
+fn parse_predicate(text: &[u8], p: Parsed, table: &[&[u8]]) -> Pred
+    requires { length table.now ≤ 256 }
+    ensures { Gives (predicate (words_of table.now)) result.r text.now p result.p }
 {
-    let q = lexer::eat_ws(text, p);
-    let k = fcmp_rank(text, q);
-    let r = k.r;
-    let q1 = k.p;
-    if r < 16 {
-        return Pred { p: q1, r: r as u8 };
+    let k = lexer_keywords::match_rank(text, lexer::eat_ws(text, p), table);
+    if k.r < table.len() {
+        return Pred {
+            p: k.p,
+            r: k.r as u8,
+        };
     }
-    let q2 = lexer::refuse(q1, records::Q_PREDICATE);
-    Pred { p: q2, r: 0 }
+    Pred {
+        p: lexer::refuse(k.p, records::Q_PREDICATE),
+        r: 0,
+    }
 }
 
 // `fcmp P T V, V`
-pub fn parse_fcmp(
-    text: &[u8],
-    words: &mut [u64],
-    p: Parsed,
-    dest: u64,
-) -> Parsed
+pub fn parse_fcmp(text: &[u8], words: &mut [u64], p: Parsed, dest: u64) -> Parsed
     ensures { Leads (parse_fcmp dest) 2 [] (made same text.now p) text.now p p words.old result words.new }
 {
     let q = node_words::begin(words, p, dest);
     let q1 = attributes::skip_fast_math_flags(text, q);
-    let k = parse_fcmp_pred(text, q1);
+    let k = parse_predicate(text, q1, &FCMP_PREDICATES);
     let q2 = k.p;
     binary(text, words, p, q2, records::K_FCMP, k.r)
 }
 
 // `trunc T V to T` and its like. At a `(` the next statement would refuse.
-pub fn parse_conv(
-    text: &[u8],
-    words: &mut [u64],
-    p: Parsed,
-    op: u8,
-    dest: u64,
-) -> Parsed
+pub fn parse_conv(text: &[u8], words: &mut [u64], p: Parsed, op: u8, dest: u64) -> Parsed
     ensures { Leads (parse_conv op dest) 2 [] (made same text.now p) text.now p p words.old result words.new }
 {
     let q = node_words::begin(words, p, dest);
@@ -170,28 +125,10 @@ pub fn parse_conv(
     inst_operands::end(text, words, p, q4, records::K_CONV, op, 3)
 }
 
-// A predicate of `icmp`, in ast.rs order.
-fn icmp_rank(text: &[u8], p: Parsed) -> Ranked
-    ensures { (result.r ≡ rank_p icmp_preds text.now p) × (result.p ≡ ranked_p icmp_preds text.now p) }
-{
-    let lens: [u8; 10] = [2, 2, 3, 3, 3, 3, 3, 3, 3, 3];
-    lexer_keywords::match_rank(text, p, &lens, b"eqneugtugeultulesgtsgesltsle")
-}
-
-// `parse_icmp_pred`
-pub fn parse_icmp_pred(text: &[u8], p: Parsed) -> Pred
-    ensures { Gives (predicate icmp_preds) result.r text.now p result.p }
-{
-    let q = lexer::eat_ws(text, p);
-    let k = icmp_rank(text, q);
-    let r = k.r;
-    let q1 = k.p;
-    if r < 10 {
-        return Pred { p: q1, r: r as u8 };
-    }
-    let q2 = lexer::refuse(q1, records::Q_PREDICATE);
-    Pred { p: q2, r: 0 }
-}
+// The predicates of `icmp`, in ast.rs order.
+static ICMP_PREDICATES: [&[u8]; 10] = [
+    b"eq", b"ne", b"ugt", b"uge", b"ult", b"ule", b"sgt", b"sge", b"slt", b"sle",
+];
 
 // `samesign`, if it stands there.
 pub fn skip_samesign(text: &[u8], p: Parsed) -> Parsed
@@ -201,28 +138,18 @@ pub fn skip_samesign(text: &[u8], p: Parsed) -> Parsed
 }
 
 // `icmp P T V, V`
-pub fn parse_icmp(
-    text: &[u8],
-    words: &mut [u64],
-    p: Parsed,
-    dest: u64,
-) -> Parsed
+pub fn parse_icmp(text: &[u8], words: &mut [u64], p: Parsed, dest: u64) -> Parsed
     ensures { Leads (parse_icmp dest) 2 [] (made same text.now p) text.now p p words.old result words.new }
 {
     let q = node_words::begin(words, p, dest);
     let q1 = skip_samesign(text, q);
-    let k = parse_icmp_pred(text, q1);
+    let k = parse_predicate(text, q1, &ICMP_PREDICATES);
     let q2 = k.p;
     binary(text, words, p, q2, records::K_ICMP, k.r)
 }
 
 // `select T V, T V, T V`
-pub fn parse_select(
-    text: &[u8],
-    words: &mut [u64],
-    p: Parsed,
-    dest: u64,
-) -> Parsed
+pub fn parse_select(text: &[u8], words: &mut [u64], p: Parsed, dest: u64) -> Parsed
     ensures { Leads (parse_select dest) 2 [] (made same text.now p) text.now p p words.old result words.new }
 {
     let q = node_words::begin(words, p, dest);
@@ -231,15 +158,7 @@ pub fn parse_select(
     let q3 = values::parse_typed_val(text, words, q2, records::DEPTH_LIMIT);
     let q4 = lexer::expect_token(text, q3, b',');
     let q5 = inst_operands::parse_operand(text, words, q4);
-    inst_operands::end(
-        text,
-        words,
-        p,
-        q5,
-        records::K_SELECT,
-        records::D_NONE,
-        4,
-    )
+    inst_operands::end(text, words, p, q5, records::K_SELECT, records::D_NONE, 4)
 }
 
 // `[V, L]` behind commas, each two children behind the type.
@@ -247,9 +166,8 @@ fn phi_items(text: &[u8], words: &mut [u64], p: Parsed) -> Listed
     ensures { Leads (phi_items 65536 1 []) 0 [] (made (listed result.n 0) text.now p) text.now p p words.old result.p words.new }
 {
     let mut q = p;
-    let mut left: usize = records::LIST_TURNS;
     let mut n: u16 = 1;
-    while 0 < left {
+    for _left in (0..records::LIST_TURNS).rev() {
         q = lexer::expect_token(text, q, b'[');
         q = values::parse_value(text, words, q, records::DEPTH_LIMIT);
         q = lexer::count_child(q, n);
@@ -264,7 +182,6 @@ fn phi_items(text: &[u8], words: &mut [u64], p: Parsed) -> Listed
         q = lexer::eat_ws(text, q);
         if lexer::looks(text, q, b',') {
             q = lexer::pass(text, q, 1);
-            left -= 1;
         } else {
             return Listed { p: q, n, dots: 0 };
         }
@@ -274,12 +191,7 @@ fn phi_items(text: &[u8], words: &mut [u64], p: Parsed) -> Listed
 }
 
 // `phi T [V, L], ..`
-pub fn parse_phi(
-    text: &[u8],
-    words: &mut [u64],
-    p: Parsed,
-    dest: u64,
-) -> Parsed
+pub fn parse_phi(text: &[u8], words: &mut [u64], p: Parsed, dest: u64) -> Parsed
     ensures { Leads (parse_phi dest) 2 [] (made same text.now p) text.now p p words.old result words.new }
 {
     let q = node_words::begin(words, p, dest);
@@ -290,12 +202,7 @@ pub fn parse_phi(
 }
 
 // `freeze T V`
-pub fn parse_freeze(
-    text: &[u8],
-    words: &mut [u64],
-    p: Parsed,
-    dest: u64,
-) -> Parsed
+pub fn parse_freeze(text: &[u8], words: &mut [u64], p: Parsed, dest: u64) -> Parsed
     ensures { Leads (parse_freeze dest) 2 [] (made same text.now p) text.now p p words.old result words.new }
 {
     let q = node_words::begin(words, p, dest);

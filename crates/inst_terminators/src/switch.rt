@@ -17,16 +17,8 @@ fn taken(words: &[u64], q: Parsed, i: usize) -> u64
     ensures { result ≡ taken_p i q words.now }
 {
     match q {
-        Parsed::Ok(c) => {
-            if i < c.w {
-                if i < words.len() {
-                    return words[i];
-                }
-                return 0;
-            }
-            0
-        }
-        Parsed::Refused(e, x) => 0,
+        Ok(c) if i < c.w && i < words.len() => words[i],
+        _ => 0,
     }
 }
 
@@ -60,10 +52,7 @@ fn case_int(text: &[u8], p: Parsed) -> Case
 fn stopped(p: Parsed) -> bool
     ensures { result ≡ stopped_p p }
 {
-    match p {
-        Parsed::Ok(c) => false,
-        Parsed::Refused(e, q) => true,
-    }
+    p.is_err()
 }
 
 // So many children there are with the labels of the cases.
@@ -78,9 +67,8 @@ fn switch_ints(text: &[u8], words: &mut [u64], p: Parsed) -> Cases
     ensures { Leads (switch_cases 65536 3 [] []) 0 [] (kept (λ labels ints. ret (cases result.n ints labels)) length text.now p) text.now p p words.old result.p words.new }
 {
     let mut q = p;
-    let mut left: usize = records::LIST_TURNS;
     let mut n: u16 = SWITCH_FRONT;
-    while 0 < left {
+    for _left in (0..records::LIST_TURNS).rev() {
         q = lexer::eat_ws(text, q);
         if lexer::looks(text, q, b']') {
             q = lexer::pass(text, q, 1);
@@ -96,7 +84,6 @@ fn switch_ints(text: &[u8], words: &mut [u64], p: Parsed) -> Cases
         }
         q = node_words::push(words, q, c.hi);
         q = node_words::push(words, q, c.lo);
-        left -= 1;
         n = types::one_more(n);
     }
     q = lexer::refuse(q, records::Q_CHILDREN);
@@ -108,9 +95,8 @@ fn switch_labels(text: &[u8], words: &mut [u64], p: Parsed) -> Cases
     ensures { Leads (switch_cases 65536 3 [] []) 0 [] (kept (λ ints labels. ret (cases result.n ints labels)) nothing text.now p) text.now p p words.old result.p words.new }
 {
     let mut q = p;
-    let mut left: usize = records::LIST_TURNS;
     let mut n: u16 = SWITCH_FRONT;
-    while 0 < left {
+    for _left in (0..records::LIST_TURNS).rev() {
         q = lexer::eat_ws(text, q);
         if lexer::looks(text, q, b']') {
             q = lexer::pass(text, q, 1);
@@ -125,7 +111,6 @@ fn switch_labels(text: &[u8], words: &mut [u64], p: Parsed) -> Cases
             return Cases { p: q, n };
         }
         q = inst_operands::label_node(words, q, t.v);
-        left -= 1;
         n = types::one_more(n);
     }
     q = lexer::refuse(q, records::Q_CHILDREN);
@@ -155,7 +140,7 @@ pub fn parse_switch(text: &[u8], words: &mut [u64], p: Parsed) -> Parsed
     let l = switch_labels(text, words, z2);
     let z3 = l.p;
     let q7 = inst_operands::resume(z3, q6);
-    let count = lexer::minus(c.n as usize, SWITCH_FRONT as usize);
+    let count = c.n.saturating_sub(SWITCH_FRONT);
     let q8 = node_words::patch(words, p, q7, 1, count as u64);
     node_words::close(words, p, q8, records::K_SWITCH, records::D_NONE, c.n)
 }

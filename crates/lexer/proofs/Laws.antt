@@ -456,19 +456,6 @@ g_more f u {E} {text} {p} {p'} h r = let e : suc (u - 1) ≡ u = omega arith in 
 pub g_no_more : {A : Type 0} (f : ℕ → Prog A) (u : ℕ) {E : Aim A} {text : List ℕ} {p p' : Parsed} → u ≤ 0 → Finds (f 0) E text p p' → Finds (f u) E text p p'
 g_no_more f u {E} {text} {p} {p'} h r = let e : 0 ≡ u = omega arith in subst (λ (z : ℕ). Finds (f z) E text p p') e r
 
--- the same, where the code counts its turns up to n
-pub more_turns : {A : Type 0} (f : ℕ → Prog A) (n k : ℕ) {c : ℕ} {mid : List ℕ} {E : Goal A} {text : List ℕ} {p0 p p' : Parsed} {w w' : List ℕ} → k < n → Leads (f (suc (n - (k + 1)))) c mid E text p0 p w p' w' → Leads (f (n - k)) c mid E text p0 p w p' w'
-more_turns f n k {c} {mid} {E} {text} {p0} {p} {p'} {w} {w'} h r = let e : suc (n - (k + 1)) ≡ n - k = omega arith in subst (λ (z : ℕ). Leads (f z) c mid E text p0 p w p' w') e r
-
-pub no_turns : {A : Type 0} (f : ℕ → Prog A) (n k : ℕ) {c : ℕ} {mid : List ℕ} {E : Goal A} {text : List ℕ} {p0 p p' : Parsed} {w w' : List ℕ} → n ≤ k → Leads (f 0) c mid E text p0 p w p' w' → Leads (f (n - k)) c mid E text p0 p w p' w'
-no_turns f n k {c} {mid} {E} {text} {p0} {p} {p'} {w} {w'} h r = let e : 0 ≡ n - k = omega arith in subst (λ (z : ℕ). Leads (f z) c mid E text p0 p w p' w') e r
-
-pub g_more_turns : {A : Type 0} (f : ℕ → Prog A) (n k : ℕ) {E : Aim A} {text : List ℕ} {p p' : Parsed} → k < n → Finds (f (suc (n - (k + 1)))) E text p p' → Finds (f (n - k)) E text p p'
-g_more_turns f n k {E} {text} {p} {p'} h r = let e : suc (n - (k + 1)) ≡ n - k = omega arith in subst (λ (z : ℕ). Finds (f z) E text p p') e r
-
-pub g_no_turns : {A : Type 0} (f : ℕ → Prog A) (n k : ℕ) {E : Aim A} {text : List ℕ} {p p' : Parsed} → n ≤ k → Finds (f 0) E text p p' → Finds (f (n - k)) E text p p'
-g_no_turns f n k {E} {text} {p} {p'} h r = let e : 0 ≡ n - k = omega arith in subst (λ (z : ℕ). Finds (f z) E text p p') e r
-
 -- ---- words that are known, written where as many are paid for
 ok_words : (a b : List ℕ) (i j : ℕ) → ok a i ≡ ok b j → a ≡ b
 ok_words a b i j e = cc

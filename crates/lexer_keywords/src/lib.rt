@@ -87,7 +87,7 @@ pub fn skip_all(text: &[u8], p: Parsed, table: &[&[u8]]) -> Parsed
     ensures { Gives (skip_all turns (words_of table.now)) tt text.now p result }
 {
     let mut q = p;
-    for _turn in 0..records::TURNS {
+    for _left in (0..records::TURNS).rev() {
         let k = match_rank(text, eat_ws(text, q), table);
         q = k.p;
         if table.len() <= k.r {

@@ -25,6 +25,8 @@ use Rattle.lexer.proofs.Laws.{turn}
 use Rattle.inst_operands.specs.Rich.{Rich, richly}
 use Rattle.inst_operands.proofs.RichLaws.{enrich}
 use Rattle.piece_directory.specs.Piece.{BlockIs, is_block, is_tail_lem, no_block, Holds}
+use Rattle.std.specs.Prelude.{Result}
+use Rattle.records.specs.declared.Refusal.{Refusal}
 use Rattle.piece_directory.specs.declared.pieces.Piece.{Piece}
 use Rattle.piece_block.specs.Stated.{Which, a_label, an_instruction, a_terminator, StatementEnds, stated_at, no_statement, stated}
 use Rattle.piece_block.specs.Bodied.{BodyEnds, through, shut, no_body, bodied}
@@ -231,10 +233,10 @@ block_answer x (tailed e) = true_false e
 block_answer x no_piece = no_block
 
 module _ {text w1 w2 v : List ℕ} (i : ℕ) (w : List ℕ) {p1 p2 q : Parsed} {tail : Bool} {x l n over : ℕ} (small : length text ≤ 16777216) (o1 : (p1 ≡ pushed origin) × (w1 ≡ pushes 0 origin w)) (o2 : (p2 ≡ pushed p1) × (w2 ≡ pushes 0 p1 w1)) (r : Leads (parse_body 16777217 i 0 0 0 []) 0 [] (richly text (bodied tail x l n over text p2)) text p2 p2 w2 q v) where
-  pub tail_is : {y : Piece} → tail ≡ true → y ≡ tail_of q → BlockIs (block_at i text) y v
+  pub tail_is : {y : Result Piece Refusal} → tail ≡ true → y ≡ tail_of q → BlockIs (block_at i text) y v
   unfolding parse_block block_at block_read
-  tail_is {y} t e = subst (λ (z : Piece). BlockIs (block_of (run (parse_block i) 0 text)) z v) (sym e) (tail_answer (whole i w small o1 o2 (tail_then r t)))
+  tail_is {y} t e = subst (λ (z : Result Piece Refusal). BlockIs (block_of (run (parse_block i) 0 text)) z v) (sym e) (tail_answer (whole i w small o1 o2 (tail_then r t)))
 
-  pub block_is : {p' : Parsed} {v' : List ℕ} {y : Piece} → tail ≡ false → ((x : ℕ) (text acc term : List ℕ) → Leads (finish_block x l n over acc term) 0 (0 ∷ (0 ∷ (acc ++ term))) (made (◌∷◌ x) text origin) text origin q v p' v') → y ≡ piece_of x p' → BlockIs (block_at i text) y v'
+  pub block_is : {p' : Parsed} {v' : List ℕ} {y : Result Piece Refusal} → tail ≡ false → ((x : ℕ) (text acc term : List ℕ) → Leads (finish_block x l n over acc term) 0 (0 ∷ (0 ∷ (acc ++ term))) (made (◌∷◌ x) text origin) text origin q v p' v') → y ≡ piece_of x p' → BlockIs (block_at i text) y v'
   unfolding parse_block block_at block_read
-  block_is {p'} {v'} {y} t k e = subst (λ (z : Piece). BlockIs (block_of (run (parse_block i) 0 text)) z v') (sym e) (block_answer x (whole i w small o1 o2 (block_then r t (k x text))))
+  block_is {p'} {v'} {y} t k e = subst (λ (z : Result Piece Refusal). BlockIs (block_of (run (parse_block i) 0 text)) z v') (sym e) (block_answer x (whole i w small o1 o2 (block_then r t (k x text))))

@@ -17,6 +17,7 @@ ghost use Rattle.piece_block.specs.Part.{BlockIn, BlockDry};
 use crate::statements::Within;
 use lexer::{Cursor, Parsed};
 use piece_directory::pieces::{Piece, Spot};
+use records::Refusal;
 
 // Where the reader is behind a body: is it the tail; else the counter, the last label, how many instructions, the place behind the 65,536th.
 #[derive(Clone, Copy)]
@@ -38,8 +39,7 @@ fn parse_body(text: &[u8], words: &mut [u64], p: Parsed, counter: u64) -> Body
     let mut label: u64 = 0;
     let mut n: usize = 0;
     let mut over: usize = 0;
-    let mut left: usize = records::TURNS;
-    while 0 < left {
+    for _left in (0..records::TURNS).rev() {
         let r = lexer::eat_ws(text, q);
         if lexer::looks(text, r, b'}') {
             let r1 = lexer::pass(text, r, 1);
@@ -60,7 +60,6 @@ fn parse_body(text: &[u8], words: &mut [u64], p: Parsed, counter: u64) -> Body
             q = r3;
             c = s.c;
             label = s.label;
-            left -= 1;
         } else {
             if kind == statements::INSTRUCTION {
                 let at = lexer::place(r3);
@@ -68,7 +67,6 @@ fn parse_body(text: &[u8], words: &mut [u64], p: Parsed, counter: u64) -> Body
                 c = s.c;
                 over = piece_close::over_at(n, over, at);
                 n += 1;
-                left -= 1;
             } else {
                 return Body {
                     p: r3,
@@ -94,7 +92,7 @@ fn parse_body(text: &[u8], words: &mut [u64], p: Parsed, counter: u64) -> Body
 
 // A block or the tail, from the start of the text, where the counter is `counter`, its words from the start of the array: slots for the header and the label, the
 // instructions and the terminator.
-pub fn parse_block(text: &[u8], words: &mut [u64], counter: u64) -> Piece
+pub fn parse_block(text: &[u8], words: &mut [u64], counter: u64) -> Result<Piece, Refusal>
     requires { length text.now ≤ 16777216 }
     ensures { BlockIs (block_at counter text.now) result words.new × (length words.new ≡ length words.old) }
 {
@@ -111,7 +109,7 @@ pub fn parse_block(text: &[u8], words: &mut [u64], counter: u64) -> Piece
 }
 
 // The block or tail there. Its words stand from there on, as far as `to`.
-pub fn block_in(text: &[u8], words: &mut [u64], spot: Spot, to: usize) -> Piece
+pub fn block_in(text: &[u8], words: &mut [u64], spot: Spot, to: usize) -> Result<Piece, Refusal>
     requires text_len_bound { (length text.now ≤ text_limit) × (spot.pos ≤ length text.now) }
     requires word_le_to { (spot.word ≤ to) × (to ≤ length words.old) }
     ensures { BlockIn spot.counter (drop spot.pos text.now) spot.word to words.old words.new result }
@@ -122,7 +120,7 @@ pub fn block_in(text: &[u8], words: &mut [u64], spot: Spot, to: usize) -> Piece
 }
 
 // The block or tail at pos, where the counter is `counter`, its words only counted.
-pub fn block_dry(text: &[u8], pos: usize, counter: u64) -> Piece
+pub fn block_dry(text: &[u8], pos: usize, counter: u64) -> Result<Piece, Refusal>
     requires text_len_bound { (length text.now ≤ text_limit) × (pos ≤ length text.now) }
     ensures { BlockDry counter (drop pos text.now) result }
 {

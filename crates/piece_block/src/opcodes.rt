@@ -83,36 +83,81 @@ fn narrow(r: usize) -> u8
     0
 }
 
+static VALUE_OPCODES: [&[u8]; 46] = [
+    b"add",
+    b"sub",
+    b"mul",
+    b"udiv",
+    b"sdiv",
+    b"urem",
+    b"srem",
+    b"and",
+    b"or",
+    b"xor",
+    b"shl",
+    b"lshr",
+    b"ashr",
+    b"fadd",
+    b"fsub",
+    b"fmul",
+    b"fdiv",
+    b"frem",
+    b"fneg",
+    b"trunc",
+    b"zext",
+    b"sext",
+    b"ptrtoint",
+    b"inttoptr",
+    b"bitcast",
+    b"sitofp",
+    b"uitofp",
+    b"fptosi",
+    b"fptoui",
+    b"fpext",
+    b"fptrunc",
+    b"icmp",
+    b"fcmp",
+    b"select",
+    b"load",
+    b"getelementptr",
+    b"phi",
+    b"alloca",
+    b"freeze",
+    b"call",
+    b"cmpxchg",
+    b"atomicrmw",
+    b"extractvalue",
+    b"tail",
+    b"musttail",
+    b"notail",
+];
+
 // The opcode behind `%x =` that stands from a place to another.
 pub fn value_opcode(text: &[u8], from: usize, to: usize) -> u8
     ensures { result ≡ rank (spelled (raw_word (part text.now from to))) value_opcodes }
 {
-    let lens: [u8; 46] = [
-        3, 3, 3, 4, 4, 4, 4, 3, 2, 3, 3, 4, 4, 4, 4, 4, 4, 4, 4, 5, 4, 4, 8, 8, 7, 6, 6, 6, 6, 5,
-        7, 4, 4, 6, 4, 13, 3, 6, 6, 4, 7, 9, 12, 4, 8, 6,
-    ];
-    let r = lexer_spelling::spelled_rank(
-        text,
-        from,
-        to,
-        &lens,
-        b"addsubmuludivsdivuremsremandorxorshllshrashrfaddfsubfmulfdivfremfnegtrunczextsextptrtointinttoptrbitcastsitofpuitofpfptosifptouifpextfptruncicmpfcmpselectloadgetelementptrphiallocafreezecallcmpxchgatomicrmwextractvaluetailmusttailnotail",
-    );
+    let r = lexer_spelling::spelled_rank(text, from, to, &VALUE_OPCODES);
     narrow(r)
 }
+
+static STATEMENT_WORDS: [&[u8]; 10] = [
+    b"ret",
+    b"br",
+    b"switch",
+    b"unreachable",
+    b"store",
+    b"fence",
+    b"call",
+    b"tail",
+    b"musttail",
+    b"notail",
+];
 
 // The word that begins a statement, from a place to another.
 pub fn statement_opcode(text: &[u8], from: usize, to: usize) -> u8
     ensures { result ≡ rank (spelled (raw_word (part text.now from to))) statement_words }
 {
-    let lens: [u8; 10] = [3, 2, 6, 11, 5, 5, 4, 4, 8, 6];
-    let r = lexer_spelling::spelled_rank(
-        text,
-        from,
-        to,
-        &lens,
-        b"retbrswitchunreachablestorefencecalltailmusttailnotail",
-    );
+    let r = lexer_spelling::spelled_rank(text, from, to, &STATEMENT_WORDS);
     narrow(r)
 }
 
@@ -128,15 +173,7 @@ fn likely(text: &[u8], from: usize, to: usize, kw: &[u8], k: u8) -> u8
 }
 
 // The same, likely one of two.
-fn either(
-    text: &[u8],
-    from: usize,
-    to: usize,
-    kw: &[u8],
-    k: u8,
-    kw2: &[u8],
-    k2: u8,
-) -> u8
+fn either(text: &[u8], from: usize, to: usize, kw: &[u8], k: u8, kw2: &[u8], k2: u8) -> u8
     requires { (k ≡ rank kw.now value_opcodes) × (k2 ≡ rank kw2.now value_opcodes) }
     ensures { result ≡ rank (spelled (raw_word (part text.now from to))) value_opcodes }
 {
@@ -161,9 +198,7 @@ pub fn value_rank(text: &[u8], from: usize, to: usize) -> u8
             b't' => likely(text, from, to, b"tail", V_TAIL),
             b'z' => likely(text, from, to, b"zext", V_ZEXT),
             b'a' => either(text, from, to, b"add", V_ADD, b"alloca", V_ALLOCA),
-            b's' => either(
-                text, from, to, b"sext", V_SEXT, b"select", V_SELECT,
-            ),
+            b's' => either(text, from, to, b"sext", V_SEXT, b"select", V_SELECT),
             b'm' => likely(text, from, to, b"mul", V_MUL),
             b'b' => likely(text, from, to, b"bitcast", V_BITCAST),
             _ => value_opcode(text, from, to),
@@ -173,13 +208,7 @@ pub fn value_rank(text: &[u8], from: usize, to: usize) -> u8
 }
 
 // The word that begins a statement, from a place to another, which is likely kw, whose rank is k.
-fn likely_statement(
-    text: &[u8],
-    from: usize,
-    to: usize,
-    kw: &[u8],
-    k: u8,
-) -> u8
+fn likely_statement(text: &[u8], from: usize, to: usize, kw: &[u8], k: u8) -> u8
     requires { (k ≡ rank kw.now statement_words) }
     ensures { result ≡ rank (spelled (raw_word (part text.now from to))) statement_words }
 {
@@ -208,13 +237,7 @@ pub fn statement_rank(text: &[u8], from: usize, to: usize) -> u8
 }
 
 // An instruction behind `%x =` and its opcode (`parse_value_inst`); 9 where no opcode stands there.
-pub fn value_inst(
-    text: &[u8],
-    words: &mut [u64],
-    p: Parsed,
-    r: u8,
-    dest: u64,
-) -> Parsed
+pub fn value_inst(text: &[u8], words: &mut [u64], p: Parsed, r: u8, dest: u64) -> Parsed
     ensures { Leads (value_at dest r) 3 [] (richly text.now (made same text.now p)) text.now p p words.old result words.new }
 {
     if r < V_FADD {
@@ -265,13 +288,7 @@ pub fn terminator(text: &[u8], words: &mut [u64], p: Parsed, r: u8) -> Parsed
 }
 
 // An instruction without a destination behind its word, where the counter is c; 9 where no opcode stands there.
-pub fn plain_inst(
-    text: &[u8],
-    words: &mut [u64],
-    p: Parsed,
-    r: u8,
-    c: u64,
-) -> Counter
+pub fn plain_inst(text: &[u8], words: &mut [u64], p: Parsed, r: u8, c: u64) -> Counter
     requires { (4 ≤ r) }
     ensures { Leads (plain_at c r) 3 [] (richly text.now (made (counted result.c) text.now p)) text.now p p words.old result.p words.new }
 {

@@ -49,14 +49,7 @@ fn enter(p: Parsed, at: usize, b: Within) -> Counter
 }
 
 // The counter behind the label that stands from a place to another, its name's end at `at`: 26 behind an instruction.
-fn label_counter(
-    text: &[u8],
-    p: Parsed,
-    at: usize,
-    b: Within,
-    from: usize,
-    to: usize,
-) -> Counter
+fn label_counter(text: &[u8], p: Parsed, at: usize, b: Within, from: usize, to: usize) -> Counter
     ensures { Gives (labelled at (in_block b.c b.label b.n) (raw_word (part text.now from to))) result.c text.now p result.p }
 {
     let c = b.c;
@@ -84,13 +77,7 @@ fn parse_inst(text: &[u8], words: &mut [u64], p: Parsed, c: u64) -> Counter
 
 // A label, an instruction without a destination, or a terminator, whose first byte is at `at`. At a refusal it is none of the first two, so that a
 // body ends there.
-fn word_statement(
-    text: &[u8],
-    words: &mut [u64],
-    p: Parsed,
-    at: usize,
-    b: Within,
-) -> Stated
+fn word_statement(text: &[u8], words: &mut [u64], p: Parsed, at: usize, b: Within) -> Stated
     ensures { at ≤ 16777216 → Leads (word_statement at (in_block b.c b.label b.n)) 0 [] (richly text.now (stated result.kind result.label result.c text.now p)) text.now p p words.old result.p words.new }
 {
     let x = lexer_names::read_word(text, p);
@@ -109,7 +96,7 @@ fn word_statement(
         let q2 = lexer::pass(text, q, 1);
         let d = label_counter(text, q2, j, b, x.start, x.end);
         let q3 = d.p;
-        let n = lexer::minus(x.end, x.start);
+        let n = x.end.saturating_sub(x.start);
         let label = lexer_names::pack_word(at, n);
         return Stated {
             p: q3,
@@ -142,12 +129,7 @@ fn word_statement(
 }
 
 // One statement of a block that is there.
-pub fn parse_statement(
-    text: &[u8],
-    words: &mut [u64],
-    p: Parsed,
-    b: Within,
-) -> Stated
+pub fn parse_statement(text: &[u8], words: &mut [u64], p: Parsed, b: Within) -> Stated
     ensures { Leads (parse_statement (in_block b.c b.label b.n)) 0 [] (richly text.now (stated result.kind result.label result.c text.now p)) text.now p p words.old result.p words.new }
 {
     let at = lexer::place(p);

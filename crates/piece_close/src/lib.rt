@@ -7,7 +7,8 @@ ghost use Rattle.lexer.specs.Reads.{Leads, made};
 ghost use Rattle.piece_close.specs.Pieces.{piece_of, tail_of};
 
 use lexer::Parsed;
-use piece_directory::pieces::Piece;
+use piece_directory::pieces::{Piece, Size};
+use records::Refusal;
 
 // Question 19, for a count that goes past it.
 const CHILDREN: usize = records::CHILD_LIMIT as usize;
@@ -42,21 +43,20 @@ pub fn finish_block(
 }
 
 // The answer of a head or block that is read; d is the counter behind it.
-pub fn piece_of(p: Parsed, d: u64) -> Piece
+pub fn piece_of(p: Parsed, d: u64) -> Result<Piece, Refusal>
     ensures { result ≡ piece_of d p }
 {
-    match p {
-        Parsed::Ok(c) => Piece::Read(c.at, c.w, d),
-        Parsed::Refused(e, q) => Piece::Refused(e, q as u64),
-    }
+    let c = p?;
+    let size = Size {
+        bytes: c.at,
+        words: c.w,
+    };
+    Ok(Piece::Read(size, d))
 }
 
 // The answer of the tail.
-pub fn tail_of(p: Parsed) -> Piece
+pub fn tail_of(p: Parsed) -> Result<Piece, Refusal>
     ensures { result ≡ tail_of p }
 {
-    match p {
-        Parsed::Ok(c) => Piece::Tail(c.at),
-        Parsed::Refused(e, q) => Piece::Refused(e, q as u64),
-    }
+    Ok(Piece::Tail(p?.at))
 }

@@ -1,4 +1,3 @@
-pub mod Stores
 pub mod Links
 pub mod Moved
 pub mod Stretch

@@ -1,25 +1,24 @@
 // Zeros, entries, and moves within a lent array.
-ghost use Rattle.std.specs.Prelude.{◌≡◌, [], ◌++◌, ◌+◌, ◌-◌, ◌*◌, ◌≤◌, ◌<◌, length, take, drop, replicate, set};
+ghost use Rattle.std.specs.Prelude.{◌≡◌, [], ◌++◌, ◌+◌, ◌-◌, ◌*◌, ◌≤◌, ◌<◌, length, get_or, take, drop, replicate, set};
 ghost use Rattle.std.proofs.Math.Seq.{paste};
 ghost use Rattle.records.specs.Pieces.{old_sizes, old_words, pad};
 ghost use Rattle.records.specs.Limits.{half_limit, entry_words};
-ghost use Rattle.records.specs.Words.{pack};
+ghost use Rattle.records.specs.Words.{pack, hi, lo};
 ghost use Rattle.piece_directory.specs.Olds.{olds_of, moved};
 
-use crate::pieces::{Size, Spot};
+use crate::pieces::{Entry, Size, Spot};
 
 // "Unused words are zero": all from `from` on.
 pub fn clear(words: &mut [u64], from: usize)
     ensures { words.new ≡ take from words.old ++ replicate (length words.old - from) 0 }
 {
-    let mut i = from;
-    while i < words.len() {
-        words[i] = 0;
-        i += 1;
+    if from < words.len() {
+        words[from..].fill(0);
     }
 }
 
 // A refused full reading leaves zeros.
+#[tactic(auto, unfolding(records::specs::Pieces::pad))]
 pub fn wipe(words: &mut [u64], directory: &mut [u64])
     ensures { (words.new ≡ pad (length words.old) []) × (directory.new ≡ pad (length directory.old) []) }
 {
@@ -40,29 +39,24 @@ pub fn put_entry(directory: &mut [u64], spot: Spot, size: Size)
     directory[i + 2] = spot.counter;
 }
 
-// The n words at `from` come to stand at `to`, which is not behind it.
-fn move_left(words: &mut [u64], from: usize, to: usize, n: usize)
-    requires { (to ≤ from) × (from + n ≤ length words.old) }
-    ensures { words.new ≡ paste words.old to (drop from words.old) n }
+// The entry of the piece with that number.
+pub fn entry(directory: &[u64], number: usize) -> Entry
+    requires { number * entry_words + entry_words ≤ length directory.now }
+    ensures start { result.start ≡ hi (get_or directory.now (number * entry_words) 0) }
+    ensures first { result.first ≡ hi (get_or directory.now (number * entry_words + 1) 0) }
+    ensures bytes { result.size.bytes ≡ lo (get_or directory.now (number * entry_words) 0) }
+    ensures words { result.size.words ≡ lo (get_or directory.now (number * entry_words + 1) 0) }
+    ensures counter { result.counter ≡ get_or directory.now (number * entry_words + 2) 0 }
 {
-    let mut i: usize = 0;
-    while i < n {
-        let w = words[from + i];
-        words[to + i] = w;
-        i += 1;
-    }
-}
-
-// The n words at `from` come to stand at `to`, which is not before it.
-fn move_right(words: &mut [u64], from: usize, to: usize, n: usize)
-    requires { (from ≤ to) × (to + n ≤ length words.old) }
-    ensures { words.new ≡ paste words.old to (drop from words.old) n }
-{
-    let mut i = n;
-    while 0 < i {
-        i -= 1;
-        let w = words[from + i];
-        words[to + i] = w;
+    let i = number * records::ENTRY_WORDS;
+    Entry {
+        start: (directory[i] / records::HALF) as usize,
+        first: (directory[i + 1] / records::HALF) as usize,
+        size: Size {
+            bytes: (directory[i] % records::HALF) as usize,
+            words: (directory[i + 1] % records::HALF) as usize,
+        },
+        counter: directory[i + 2],
     }
 }
 
@@ -71,14 +65,7 @@ pub fn move_words(words: &mut [u64], from: usize, to: usize, n: usize)
     requires { (from + n ≤ length words.old) × (to + n ≤ length words.old) }
     ensures { words.new ≡ paste words.old to (drop from words.old) n }
 {
-    if to < from {
-        move_left(words, from, to, n);
-        return;
-    }
-    if from < to {
-        move_right(words, from, to, n);
-        return;
-    }
+    words.copy_within(from..from + n, to);
 }
 
 // The n entries there come to start there in text and words, one behind the other; each keeps its counter.
@@ -87,28 +74,23 @@ fn renumber(directory: &mut [u64], spot: Spot, n: usize)
     requires directory_bound { (spot.pos + old_sizes (olds_of n (drop (spot.number * entry_words) directory.old)) < half_limit) × (spot.word + old_words (olds_of n (drop (spot.number * entry_words) directory.old)) < half_limit) }
     ensures { directory.new ≡ take (spot.number * entry_words) directory.old ++ (moved n spot.pos spot.word (drop (spot.number * entry_words) directory.old) ++ drop ((spot.number + n) * entry_words) directory.old) }
 {
-    let mut k: usize = 0;
     let mut pos = spot.pos;
     let mut word = spot.word;
-    while k < n {
+    for k in 0..n {
         let number = spot.number + k;
-        let at = number * records::ENTRY_WORDS;
-        let bytes = (directory[at] % records::HALF) as usize;
-        let words = (directory[at + 1] % records::HALF) as usize;
-        let counter = directory[at + 2];
+        let old = entry(directory, number);
         put_entry(
             directory,
             Spot {
                 number,
                 pos,
                 word,
-                counter,
+                counter: old.counter,
             },
-            Size { bytes, words },
+            old.size,
         );
-        pos += bytes;
-        word += words;
-        k += 1;
+        pos += old.size.bytes;
+        word += old.size.words;
     }
 }
 

@@ -13,6 +13,7 @@ ghost use Rattle.piece_head.specs.Reading.{params, parameter, shuts};
 use lexer::{Cursor, Parsed};
 use piece_counter::Counter;
 use piece_directory::pieces::Piece;
+use records::Refusal;
 
 // Where the reader is behind the parameters: their number and the return type's, whether `...` ends them, and the counter.
 #[derive(Clone, Copy)]
@@ -61,10 +62,9 @@ fn parse_param_list(text: &[u8], words: &mut [u64], p: Parsed) -> Params
             c: 0,
         };
     }
-    let mut left: usize = records::LIST_TURNS;
     let mut n: u16 = 1;
     let mut c: u64 = 0;
-    while 0 < left {
+    for _left in (0..records::LIST_TURNS).rev() {
         let r = lexer::eat_ws(text, q);
         if lexer::looks(text, r, b'.') {
             let r1 = lexer_names::three_dots(text, r, records::Q_TYPE);
@@ -83,9 +83,7 @@ fn parse_param_list(text: &[u8], words: &mut [u64], p: Parsed) -> Params
         n = types::one_more(n);
         c = x.c;
         q = e.p;
-        if e.more {
-            left -= 1;
-        } else {
+        if !e.more {
             return Params {
                 p: q,
                 n,
@@ -146,7 +144,7 @@ fn head_node(text: &[u8], words: &mut [u64], p: Parsed) -> Counter
 }
 
 // The head at the start of a text, its words at the start of `words`, as far as these reach.
-pub fn parse_head(text: &[u8], words: &mut [u64]) -> Piece
+pub fn parse_head(text: &[u8], words: &mut [u64]) -> Result<Piece, Refusal>
     requires { length text.now ≤ 16777216 }
     ensures { HeadIs (head_at text.now) result words.new × (length words.new ≡ length words.old) }
 {
@@ -157,7 +155,7 @@ pub fn parse_head(text: &[u8], words: &mut [u64]) -> Piece
 }
 
 // The head. Its words stand from `word` on, as far as `to`.
-pub fn head_in(text: &[u8], words: &mut [u64], word: usize, to: usize) -> Piece
+pub fn head_in(text: &[u8], words: &mut [u64], word: usize, to: usize) -> Result<Piece, Refusal>
     requires text_len_bound { length text.now ≤ text_limit }
     requires word_le_to { (word ≤ to) × (to ≤ length words.old) }
     ensures { HeadIn text.now word to words.old words.new result }
@@ -166,7 +164,7 @@ pub fn head_in(text: &[u8], words: &mut [u64], word: usize, to: usize) -> Piece
 }
 
 // The head, its words only counted.
-pub fn head_dry(text: &[u8]) -> Piece
+pub fn head_dry(text: &[u8]) -> Result<Piece, Refusal>
     requires text_len_bound { length text.now ≤ text_limit }
     ensures { HeadDry text.now result }
 {

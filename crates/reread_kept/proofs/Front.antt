@@ -10,8 +10,12 @@ use native.Mathlib.Numerals.{add-one}
 use native.Mathlib.Omega.{arith}
 use lib.Dec.{leb, ltb, eqb}
 use lib.ListN.{length, take, drop, get_or, length-drop, drop_of_length-le}
-use lib.Seq.{drop-drop, length-take-le, get_or-take}
-use borrow.Author.Tests.{lt-ltb, le-ltb, eq-eqb, ne_eqb, eqb-true, eqb-false, leb-true, leb-false, ltb-true, ltb-false}
+use lib.Seq.{drop-drop}
+use borrow.Author.Tests.{lt-ltb, le-ltb, eqb-true, eqb-false, leb-true, leb-false, ltb-true, ltb-false}
+use lib.Pointwise.{pointwise}
+use Rattle.std.proofs.Common.{nat_cmp}
+use Rattle.std.proofs.lemmas.Bool.Decides.{nat_tests}
+use Rattle.std.specs.Ordering.{ord_max}
 use Rattle.program.specs.Class.{is_word}
 use Rattle.program.specs.Prog.{ends}
 use Rattle.records.specs.Limits.{counter_limit, entry_words}
@@ -99,6 +103,10 @@ module _ (s : List ℕ) (p r : ℕ) (e : WordEnd s p r) where
   unfolding ends
   word_in h = let t : is_word (get_or s r 0) ≡ false = e.stops h in along ∙ rw (drop_next s r h, ends, t)
 
+-- the later of two places
+pub max_is : (a b : ℕ) → ord_max nat_cmp a b ≡ max a b
+max_is a b = grind (arith, nat_tests)
+
 -- what a search from a later place finds is the end of the word here too
 pub word_before : (s : List ℕ) (pos p w r : ℕ) → pos ≤ p → ((k : ℕ) → pos ≤ k → k < w → is_word (get_or s k 0) ≡ true) → WordEnd s (max w p) r → WordEnd s p r
 word_before s pos p w r h wordy e =
@@ -108,101 +116,62 @@ word_before s pos p w r h wordy e =
     go k a b true t = wordy k (omega arith) (ltb-true k w t)
     go k a b false t = e.wordy k (omega (arith, ltb-false k w t)) b
 
--- a search for the end, and where it stops; s is the first a bytes of a text
-module _ (text : List ℕ) (a : ℕ) (h : a ≤ length text) where
-  pub front_length : length (take a text) ≡ a
-  front_length = length-take-le a text h
-
-  pub front_byte : (k : ℕ) → k < a → get_or (take a text) k 0 ≡ get_or text k 0
-  front_byte k l = get_or-take a text k 0 l
-
+-- a search for the end, and where it stops
+module _ (s : List ℕ) where
   pub record Searching (from i : ℕ) : Type 0 where
     pub behind : from ≤ i
-    pub inside : i ≤ a
-    pub wordy : (k : ℕ) → from ≤ k → k < i → is_word (get_or (take a text) k 0) ≡ true
+    pub inside : i ≤ length s
+    pub wordy : (k : ℕ) → from ≤ k → k < i → is_word (get_or s k 0) ≡ true
 
-  pub searching_first : (from : ℕ) → from ≤ a → Searching from from
+  pub searching_first : (from : ℕ) → from ≤ length s → Searching from from
   searching_first from l = record { behind = omega arith; inside = l; wordy = λ k x y. absurd (omega arith) }
 
   module _ (from i : ℕ) (g : Searching from i) where
-    pub searching_more : i < a → is_word (get_or text i 0) ≡ true → Searching from (i + 1)
+    pub searching_more : i < length s → is_word (get_or s i 0) ≡ true → Searching from (i + 1)
     searching_more l t =
         record { behind = omega (arith, g.behind); inside = omega arith; wordy = λ k x y. go k x y (eqb k i) refl }
       where
-        go : (k : ℕ) → from ≤ k → k < i + 1 → (b : Bool) → eqb k i ≡ b → is_word (get_or (take a text) k 0) ≡ true
-        go k x y true q = rw (eqb-true k i q, front_byte i l) t
+        go : (k : ℕ) → from ≤ k → k < i + 1 → (b : Bool) → eqb k i ≡ b → is_word (get_or s k 0) ≡ true
+        go k x y true q = rw (eqb-true k i q) t
         go k x y false q = g.wordy k x (omega (arith, eqb-false k i q))
 
-    pub found : i < a → is_word (get_or text i 0) ≡ false → WordEnd (take a text) from i
-    found l t = record { behind = g.behind; inside = rw front_length g.inside; wordy = g.wordy; stops = λ m. rw (front_byte i l) t }
+    pub found : is_word (get_or s i 0) ≡ false → WordEnd s from i
+    found t = record { behind = g.behind; inside = g.inside; wordy = g.wordy; stops = λ m. t }
 
-    pub found_end : a ≤ i → WordEnd (take a text) from i
-    found_end l = record { behind = g.behind; inside = rw front_length g.inside; wordy = g.wordy; stops = λ m. absurd (omega (arith, front_length)) }
+    pub found_end : length s ≤ i → WordEnd s from i
+    found_end l = record { behind = g.behind; inside = g.inside; wordy = g.wordy; stops = λ m. absurd (omega arith) }
 
 -- ---- `addrspace`
-pub leads_short : (ws xs : List ℕ) → length xs ≤ length ws → leads ws xs ≡ false
+-- a word that stands in front, and one that does not
+pub leads_front : (ws xs : List ℕ) → pointwise eqb ws (take (length ws) xs) ≡ true → leads ws xs ≡ leads [] (drop (length ws) xs)
 unfolding leads
-leads_short [] [] h = refl
-leads_short [] (x ∷ xs) h = absurd (omega arith)
-leads_short (w ∷ ws) [] h = refl
-leads_short (w ∷ ws) (x ∷ xs) h = rw (leads_short ws xs (omega arith)) (go (eqb w x))
+leads_front [] xs h = refl
+leads_front (w ∷ ws) [] h = let z : ◌≡◌ {A = ℕ} 0 1 = cc in absurd (omega arith)
+leads_front (w ∷ ws) (x ∷ xs) h = go (eqb w x) h (leads_front ws xs)
   where
-    go : (b : Bool) → (b && false) ≡ false
-    go true = refl
-    go false = refl
+    go : (b : Bool) → (b && pointwise eqb ws (take (length ws) xs)) ≡ true → (pointwise eqb ws (take (length ws) xs) ≡ true → leads ws xs ≡ leads [] (drop (length ws) xs)) → (b && leads ws xs) ≡ leads [] (drop (length ws) xs)
+    go true k ih = ih k
+    go false k ih = let z : ◌≡◌ {A = ℕ} 0 1 = cc in absurd (omega arith)
 
-module _ (ws s : List ℕ) (p k : ℕ) where
-  pub leads_next : k < length ws → p + k < length s → get_or s (p + k) 0 ≡ get_or ws k 0 → leads (drop k ws) (drop (p + k) s) ≡ leads (drop (k + 1) ws) (drop (p + (k + 1)) s)
-  unfolding leads
-  leads_next h l e =
-      let q : p + (k + 1) ≡ p + k + 1 = omega arith in
-      let t : eqb (get_or ws k 0) (get_or s (p + k) 0) ≡ true = eq-eqb _ _ (sym e) in
-      rw (drop_next ws k h, drop_next s (p + k) l, leads, t, q)
+pub leads_other : (ws xs : List ℕ) → pointwise eqb ws (take (length ws) xs) ≡ false → leads ws xs ≡ false
+unfolding leads
+leads_other [] xs h = let z : ◌≡◌ {A = ℕ} 0 1 = cc in absurd (omega arith)
+leads_other (w ∷ ws) [] h = refl
+leads_other (w ∷ ws) (x ∷ xs) h = go (eqb w x) h (leads_other ws xs)
+  where
+    go : (b : Bool) → (b && pointwise eqb ws (take (length ws) xs)) ≡ false → (pointwise eqb ws (take (length ws) xs) ≡ false → leads ws xs ≡ false) → (b && leads ws xs) ≡ false
+    go true k ih = ih k
+    go false k ih = refl
 
-  pub leads_other : k < length ws → p + k < length s → (get_or s (p + k) 0 ≡ get_or ws k 0 → ⊥) → leads (drop k ws) (drop (p + k) s) ≡ false
-  unfolding leads
-  leads_other h l e =
-      let t : eqb (get_or ws k 0) (get_or s (p + k) 0) ≡ false = ne_eqb _ _ (λ q. e (sym q)) in
-      rw (drop_next ws k h, drop_next s (p + k) l, leads, t)
+pub leads_end : (xs : List ℕ) → 0 < length xs → leads [] xs ≡ not (is_word (get_or xs 0 0))
+unfolding leads
+leads_end [] h = absurd (omega arith)
+leads_end (x ∷ xs) h = refl
 
-  pub leads_end : length ws ≤ k → p + k < length s → leads (drop k ws) (drop (p + k) s) ≡ not (is_word (get_or s (p + k) 0))
-  unfolding leads
-  leads_end h l = rw (drop_of_length-le ws h, drop_next s (p + k) l)
-
--- the word, byte by byte, in the first a bytes of a text
-module _ (text : List ℕ) (a : ℕ) (h : a ≤ length text) (p : ℕ) (l : p ≤ a) where
-  pub record Spelling (k : ℕ) : Type 0 where
-    pub room : p + 10 ≤ a
-    pub count : k ≤ 9
-    pub rest : leads addrspace (drop p (take a text)) ≡ leads (drop k addrspace) (drop (p + k) (take a text))
-
-  pub spelling_short : a - p < 10 → false ≡ leads addrspace (drop p (take a text))
-  unfolding addrspace
-  spelling_short m = sym (leads_short addrspace (drop p (take a text)) (omega (arith, length-drop p (take a text), front_length text a h)))
-
-  pub spelling_first : 10 ≤ a - p → Spelling 0
-  spelling_first m = record { room = omega arith; count = omega arith; rest = rw (add-zero p) }
-
-  module _ (k : ℕ) (g : Spelling k) where
-    byte_here : get_or (take a text) (p + k) 0 ≡ get_or text (p + k) 0
-    byte_here = front_byte text a h (p + k) (omega (arith, g.room, g.count))
-
-    inside_here : p + k < length (take a text)
-    inside_here = omega (arith, g.room, g.count, front_length text a h)
-
-    pub spelling_more : k < 9 → get_or text (p + k) 0 ≡ get_or addrspace k 0 → Spelling (k + 1)
-    unfolding addrspace
-    spelling_more m e = record { room = g.room; count = omega arith; rest = g.rest ∙ leads_next addrspace (take a text) p k m inside_here (byte_here ∙ e) }
-
-    pub spelling_other : k < 9 → (get_or text (p + k) 0 ≡ get_or addrspace k 0 → ⊥) → false ≡ leads addrspace (drop p (take a text))
-    unfolding addrspace
-    spelling_other m e = sym (g.rest ∙ leads_other addrspace (take a text) p k m inside_here (λ q. e (sym byte_here ∙ q)))
-
-    pub spelling_end : 9 ≤ k → leads addrspace (drop p (take a text)) ≡ not (is_word (get_or text (p + 9) 0))
-    unfolding addrspace
-    spelling_end m =
-        let q : k ≡ 9 = omega (arith, g.count) in
-        g.rest ∙ leads_end addrspace (take a text) p k m inside_here ∙ ap (λ (x : ℕ). not (is_word x)) (byte_here ∙ ap (λ (n : ℕ). get_or text (p + n) 0) q)
+pub leads_none : (xs : List ℕ) → length xs < 1 → leads [] xs ≡ false
+unfolding leads
+leads_none [] h = refl
+leads_none (x ∷ xs) h = absurd (omega arith)
 
 -- ---- blocks
 pub closes_out : (s : List ℕ) (p : ℕ) → ends (drop p s) ≡ false → closes (drop p s) ≡ false

@@ -1,13 +1,13 @@
 // The pieces that re-reading keeps, in front of what is read and behind it. Nothing here knows the grammar.
 #![tactic(auto)]
 
-ghost use Rattle.std.specs.Prelude.{◌≡◌, max, ◌+◌, ◌≤◌, ◌<◌, length, take, drop};
+ghost use Rattle.std.specs.Prelude.{◌≡◌, ◌+◌, ◌≤◌, ◌<◌, length, take, drop};
 ghost use Rattle.program.specs.Class.{is_word};
 ghost use Rattle.records.specs.Limits.{half_limit};
-ghost use Rattle.records.specs.Pieces.{leads, addrspace, old_sizes, old_words};
+ghost use Rattle.records.specs.Pieces.{leads, addrspace, kept_front, old_sizes, old_words};
 ghost use Rattle.piece_directory.specs.Olds.{olds_of, begins, Joined, FrontIs, WordEnd, RoomFor, KeptBehind};
 
-use piece_directory::arrays::{move_entries, move_words};
+use piece_directory::arrays::{entry, move_entries, move_words};
 use piece_directory::pieces::Spot;
 
 // The counter with which reading begins at that piece: "that of the old piece it starts at, and .. 0 at the head" (M-106).
@@ -21,7 +21,7 @@ fn counter_at(directory: &[u64], entries: usize, number: usize) -> u64
     if entries <= number {
         return 0;
     }
-    directory[number * records::ENTRY_WORDS + 2]
+    entry(directory, number).counter
 }
 
 // Where the first `number` of the pieces end, and the next would stand.
@@ -39,13 +39,11 @@ pub fn behind(directory: &[u64], entries: usize, number: usize) -> Spot
             counter,
         };
     }
-    let last = (number - 1) * records::ENTRY_WORDS;
-    let x = directory[last];
-    let y = directory[last + 1];
+    let last = entry(directory, number - 1);
     Spot {
         number,
-        pos: (x / records::HALF + x % records::HALF) as usize,
-        word: (y / records::HALF + y % records::HALF) as usize,
+        pos: last.start + last.size.bytes,
+        word: last.first + last.size.words,
         counter,
     }
 }
@@ -54,113 +52,77 @@ pub fn behind(directory: &[u64], entries: usize, number: usize) -> Spot
 fn is_word(b: u8) -> bool
     ensures { result ≡ is_word b }
 {
-    if b < b'0' {
-        return false;
-    }
-    if b <= b'9' {
-        return true;
-    }
-    if b < b'A' {
-        return false;
-    }
-    if b <= b'Z' {
-        return true;
-    }
-    if b < b'_' {
-        return false;
-    }
-    if b <= b'_' {
-        return true;
-    }
-    if b < b'a' {
-        return false;
-    }
-    if b <= b'z' {
-        return true;
-    }
-    false
+    b.is_ascii_alphanumeric() || b == b'_'
 }
 
-// The greater of two places.
-fn later(x: usize, y: usize) -> usize
-    ensures { result ≡ max x y }
+// The end of the letters, digits and `_` at `from`.
+fn word_end(text: &[u8], from: usize) -> usize
+    requires { from ≤ length text.now }
+    ensures { WordEnd text.now from result }
 {
-    if x < y { y } else { x }
-}
-
-// The end of the letters, digits and `_` at `from`, at most a.
-fn word_end(text: &[u8], a: usize, from: usize) -> usize
-    requires { (a ≤ length text.now) × (from ≤ a) }
-    ensures { WordEnd (take a text.now) from result }
-{
-    let mut i = from;
-    while i < a {
-        if is_word(text[i]) {
-            i += 1;
-        } else {
+    for i in from..text.len() {
+        if !is_word(text[i]) {
             return i;
         }
     }
-    i
+    text.len()
 }
 
-// Does exactly the word `addrspace` stand at p, with a byte behind it, below a?
-fn addrspace_at(text: &[u8], a: usize, p: usize) -> bool
-    requires { (a ≤ length text.now) × (p ≤ a) }
-    ensures { result ≡ leads addrspace (drop p (take a text.now)) }
+// Does exactly the word `addrspace` stand at p, with a byte behind it?
+fn addrspace_at(text: &[u8], p: usize) -> bool
+    requires { p ≤ length text.now }
+    ensures { result ≡ leads addrspace (drop p text.now) }
 {
-    if a - p < 10 {
+    let rest = &text[p..];
+    if !rest.starts_with(b"addrspace") {
         return false;
     }
-    let word = b"addrspace";
-    let mut k: usize = 0;
-    while k < 9 {
-        if text[p + k] != word[k] {
-            return false;
-        }
-        k += 1;
-    }
-    if is_word(text[p + 9]) {
-        return false;
-    }
-    true
+    9 < rest.len() && !is_word(rest[9])
 }
 
 // "Pieces are kept up to the first that fails this: its end is below a and, for a block, the letters, digits and `_` that stand from
-// there, with the byte behind them, are below a too and are not `addrspace`": of the text, either one, the first a bytes are common.
+// there, with the byte behind them, are below a too and are not `addrspace`": how many, where the text is common to both.
 // A word is passed over once: w is the end of the last, behind which the next search starts.
+fn front_count(text: &[u8], directory: &[u64], entries: usize) -> usize
+    requires two { 2 ≤ entries }
+    requires joined { Joined entries directory.now }
+    ensures { result ≡ kept_front text.now (olds_of entries directory.now) }
+{
+    let a = text.len();
+    let mut pos = entry(directory, 0).size.bytes;
+    if a <= pos {
+        return 0;
+    }
+    let mut w = 0;
+    for i in 1..entries - 1 {
+        let bytes = entry(directory, i).size.bytes;
+        if a - pos <= bytes {
+            return i;
+        }
+        pos += bytes;
+        w = word_end(text, w.max(pos));
+        if a <= w {
+            return i;
+        }
+        if addrspace_at(text, pos) {
+            return i;
+        }
+    }
+    let tail = entry(directory, entries - 1).size.bytes;
+    if a - pos <= tail {
+        return entries - 1;
+    }
+    entries
+}
+
+// Where the pieces end that are kept in front: of the text, either one, the first a bytes are common.
 pub fn kept_front(text: &[u8], a: usize, directory: &[u64], entries: usize) -> Spot
     requires a_in_bounds { (a ≤ length text.now) × (2 ≤ entries) }
     requires joined { Joined entries directory.now }
     ensures { FrontIs (take a text.now) (olds_of entries directory.now) result.number result.pos result.word result.counter }
 {
-    let head = (directory[0] % records::HALF) as usize;
-    if a <= head {
-        return behind(directory, entries, 0);
-    }
-    let mut i: usize = 1;
-    let mut pos = head;
-    let mut w: usize = 0;
-    while i + 1 < entries {
-        let e = (directory[i * records::ENTRY_WORDS] % records::HALF) as usize;
-        if a - pos <= e {
-            return behind(directory, entries, i);
-        }
-        pos += e;
-        w = word_end(text, a, later(w, pos));
-        if a <= w {
-            return behind(directory, entries, i);
-        }
-        if addrspace_at(text, a, pos) {
-            return behind(directory, entries, i);
-        }
-        i += 1;
-    }
-    let tail = (directory[i * records::ENTRY_WORDS] % records::HALF) as usize;
-    if a - pos <= tail {
-        return behind(directory, entries, i);
-    }
-    behind(directory, entries, i + 1)
+    let number = front_count(&text[..a], directory, entries);
+    behind(directory, entries, number)
 }
 
 // Makes place for what is read: the old pieces from number `from` on, "kept, shifted", come to stand there. Returns the end of their words.

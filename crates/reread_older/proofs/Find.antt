@@ -17,8 +17,7 @@ use Rattle.records.specs.Words.{hi}
 use Rattle.records.specs.Pieces.{Old, old, old_sizes, from, from_blocks, joins}
 use Rattle.piece_directory.specs.Olds.{olds_of, Joined, Chained, Passed, Reached, FoundAt, FoundNot, JoinsAt, JoinsNot}
 use Rattle.reread_older.specs.Answers.{Finds, Joins}
-use Rattle.reread_older.specs.declared.Found.{Found}
-use Rattle.reread_older.specs.declared.Found.TheVariants.{At, Nothing}
+use Rattle.std.specs.Prelude.{Result, Ok, Err}
 use Rattle.piece_directory.proofs.Links.{size_at, first_at, count_at, counter_at, olds_next, olds_length, sizes_step, sizes_split}
 
 -- Before piece 1 only the head stands.
@@ -143,9 +142,9 @@ module _ (c olen left d : ℕ) (os : List Old) (j : ℕ) where
   pub joins_none : left ≤ c → FoundNot os (olen - left) d j → JoinsNot os c olen left d j
   joins_none h f = record { is = λ s e. joins_near c olen os d s (omega arith) ∙ ap (λ (k : ℕ). from_blocks (olen - k) d os) e ∙ f.is; inside = f.inside; passed = f.passed }
 
-pub joins_is : (c olen left d : ℕ) (os : List Old) (r : Found) → left ≤ c → Finds os (olen - left) d r → Joins os c olen left d r
-joins_is c olen left d os (At j) h f = joins_found c olen left d os j h f
-joins_is c olen left d os (Nothing j) h f = joins_none c olen left d os j h f
+pub joins_is : (c olen left d : ℕ) (os : List Old) (r : Result ℕ ℕ) → left ≤ c → Finds os (olen - left) d r → Joins os c olen left d r
+joins_is c olen left d os (Ok j) h f = joins_found c olen left d os j h f
+joins_is c olen left d os (Err j) h f = joins_none c olen left d os j h f
 
 -- The old pieces from there on are no longer than the text that remains.
 pub kept_size_lem : (T W n : ℕ) (dir : List ℕ) (c left d j : ℕ) → Chained T W n dir → c ≤ T → JoinsAt (olds_of n dir) c T left d j → old_sizes (drop j (olds_of n dir)) ≤ left

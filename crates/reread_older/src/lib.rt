@@ -6,6 +6,7 @@ ghost use Rattle.records.specs.Pieces.{olds};
 ghost use Rattle.piece_directory.specs.Olds.{answers, olds_of, Joined, Passed, Reached};
 ghost use Rattle.reread_older.specs.Answers.{Finds, Joins};
 
+use piece_directory::arrays::entry;
 use piece_directory::pieces::Older;
 
 // Question 22: "Does the older directory, whose entry count is lent, have at least 2 entries within its array, the first starting at 0
@@ -21,43 +22,33 @@ pub fn chained(directory: &[u64], older: Older, text_len: usize) -> bool
     if directory.len() / records::ENTRY_WORDS < entries {
         return false;
     }
-    let text = text_len as u64;
-    let words = older.words as u64;
-    let mut i: usize = 0;
-    let mut pos: u64 = 0;
-    let mut word: u64 = 0;
-    while i < entries {
-        let at = i * records::ENTRY_WORDS;
-        let x = directory[at];
-        let y = directory[at + 1];
-        if x / records::HALF != pos {
+    let mut pos = 0;
+    let mut word = 0;
+    for i in 0..entries {
+        let old = entry(directory, i);
+        if old.start != pos {
             return false;
         }
-        if y / records::HALF != word {
+        if old.first != word {
             return false;
         }
-        if text - pos < x % records::HALF {
+        if text_len - pos < old.size.bytes {
             return false;
         }
-        if words - word < y % records::HALF {
+        if older.words - word < old.size.words {
             return false;
         }
-        if records::COUNTER_LIMIT < directory[at + 2] {
+        if records::COUNTER_LIMIT < old.counter {
             return false;
         }
-        pos += x % records::HALF;
-        word += y % records::HALF;
-        i += 1;
+        pos += old.size.bytes;
+        word += old.size.words;
     }
     true
 }
 
-// The old piece that starts at a place with a counter; or that none does, with the number from which to look for a later place.
-#[derive(Clone, Copy)]
-pub enum Found {
-    At(usize),
-    Nothing(usize),
-}
+// The number of the old piece that starts at a place with a counter; or, where none does, the number from which to look for a later place.
+pub type Found = Result<usize, usize>;
 
 // The first old piece from number `from` on that starts at the target or behind it, as those before `from` start, but for the head, before
 // the target.
@@ -67,15 +58,12 @@ fn first_from(directory: &[u64], entries: usize, from: usize, target: usize) -> 
     requires passed { Passed (olds_of entries directory.now) from target }
     ensures { Reached (olds_of entries directory.now) target result }
 {
-    let mut j = from;
-    while j < entries {
-        let start = (directory[j * records::ENTRY_WORDS] / records::HALF) as usize;
-        if target <= start {
+    for j in from..entries {
+        if target <= entry(directory, j).start {
             return j;
         }
-        j += 1;
     }
-    j
+    entries
 }
 
 // "if .. the old start at the same distance from the text's end belongs to a block or tail, the old pieces from the first such", and "Old pieces
@@ -94,19 +82,16 @@ pub fn find_old(
     ensures { Finds (olds_of entries directory.now) target counter result }
 {
     let first = first_from(directory, entries, from, target);
-    let mut j = first;
-    while j < entries {
-        let at = j * records::ENTRY_WORDS;
-        let start = (directory[at] / records::HALF) as usize;
-        if target < start {
-            return Found::Nothing(first);
+    for j in first..entries {
+        let old = entry(directory, j);
+        if target < old.start {
+            return Err(first);
         }
-        if directory[at + 2] == counter {
-            return Found::At(j);
+        if old.counter == counter {
+            return Ok(j);
         }
-        j += 1;
     }
-    Found::Nothing(first)
+    Err(first)
 }
 
 // An edit: how long both texts are, and their common end.
@@ -134,7 +119,7 @@ pub fn join_old(
 {
     let left = edit.newer - pos;
     if edit.end < left {
-        return Found::Nothing(from);
+        return Err(from);
     }
     find_old(directory, entries, from, edit.older - left, counter)
 }

@@ -4,7 +4,7 @@
 use mathlib.Core.Path.{◌≡◌, refl, sym, ap, ◌∙◌}
 use mathlib.Core.Bool.{Bool, true, false}
 use mathlib.Core.List.{List, [], ◌∷◌, reverse, reverse-cons}
-use Prim.Native.Nat.{ℕ, zero, suc, ◌+◌, ◌-◌, ◌≤◌, ◌<◌}
+use Prim.Native.Nat.{ℕ, zero, suc, min, ◌+◌, ◌-◌, ◌≤◌, ◌<◌}
 use native.Mathlib.Nat.{add-zero, zero-add}
 use native.Mathlib.Omega.{arith}
 use lib.Bits.{bit_or, bit_xor, xor_add_and, and_le_l, and_le_r}
@@ -60,13 +60,20 @@ pub shares_block : (xs ys : List ℕ) (i : ℕ) → i + 64 ≤ length xs → i +
 shares_block = shares_by 64
 
 module _ (xs ys : List ℕ) (i : ℕ) (s : Shares xs ys i) where
-  pub older_ends : length xs ≤ i → i ≡ length (common xs ys)
+  older_ends : length xs ≤ i → i ≡ length (common xs ys)
   unfolding common
   older_ends h = sym (s.rest ∙ rw (drop_of_length-le xs h) (add-zero i))
 
-  pub newer_ends : i < length xs → length ys ≤ i → i ≡ length (common xs ys)
+  newer_ends : i < length xs → length ys ≤ i → i ≡ length (common xs ys)
   unfolding common
   newer_ends h k = sym (s.rest ∙ rw (drop_next xs i h, drop_of_length-le ys k) (add-zero i))
+
+  pub shorter_ends : min (length xs) (length ys) ≤ i → i ≡ length (common xs ys)
+  shorter_ends h = go (ltb i (length xs)) refl
+    where
+      go : (b : Bool) → ltb i (length xs) ≡ b → i ≡ length (common xs ys)
+      go true t = let l : i < length xs = ltb-true i (length xs) t in newer_ends l (omega arith)
+      go false t = older_ends (ltb-false i (length xs) t)
 
   pub bytes_differ : i < length xs → i < length ys → (get_or xs i 0 ≡ get_or ys i 0 → ⊥) → i ≡ length (common xs ys)
   unfolding common
@@ -118,29 +125,24 @@ module _ (xs ys : List ℕ) (a : ℕ) (hx : a ≤ length xs) (hy : a ≤ length 
           from_end xs a (c + t) hx mx ∙ ap (λ (n : ℕ). get_or xs n 0) ex ∙ e (63 - t) b ∙ ap (λ (n : ℕ). get_or ys n 0) (sym ey) ∙ sym (from_end ys a (c + t) hy my)
 
   module _ (c : ℕ) (s : Ends xs ys a c) where
-    pub older_out : length xs - a ≤ c → c ≡ end_behind a xs ys
+    pub shorter_out : min (length xs) (length ys) - a ≤ c → c ≡ end_behind a xs ys
     unfolding end_behind
-    older_out h = older_ends (reverse (drop a xs)) (reverse (drop a ys)) c s.rest (omega (arith, behind_long a xs))
+    shorter_out h = shorter_ends (reverse (drop a xs)) (reverse (drop a ys)) c s.rest (omega (arith, behind_long a xs, behind_long a ys))
 
-    module _ (h : c < length xs - a) where
-      pub newer_out : length ys - a ≤ c → c ≡ end_behind a xs ys
+    module _ (h : c < length xs - a) (k : c < length ys - a) where
+      pub ends_more : get_or xs (length xs - c - 1) 0 ≡ get_or ys (length ys - c - 1) 0 → Ends xs ys a (c + 1)
+      ends_more e =
+          record {
+            left = omega arith;
+            right = omega arith;
+            rest = shares_more (reverse (drop a xs)) (reverse (drop a ys)) c (omega (arith, behind_long a xs)) (omega (arith, behind_long a ys)) (from_end xs a c hx h ∙ e ∙ sym (from_end ys a c hy k)) s.rest;
+          }
+
+      pub ends_differ : (get_or xs (length xs - c - 1) 0 ≡ get_or ys (length ys - c - 1) 0 → ⊥) → c ≡ end_behind a xs ys
       unfolding end_behind
-      newer_out k = newer_ends (reverse (drop a xs)) (reverse (drop a ys)) c s.rest (omega (arith, behind_long a xs)) (omega (arith, behind_long a ys))
-
-      module _ (k : c < length ys - a) where
-        pub ends_more : get_or xs (length xs - c - 1) 0 ≡ get_or ys (length ys - c - 1) 0 → Ends xs ys a (c + 1)
-        ends_more e =
-            record {
-              left = omega arith;
-              right = omega arith;
-              rest = shares_more (reverse (drop a xs)) (reverse (drop a ys)) c (omega (arith, behind_long a xs)) (omega (arith, behind_long a ys)) (from_end xs a c hx h ∙ e ∙ sym (from_end ys a c hy k)) s.rest;
-            }
-
-        pub ends_differ : (get_or xs (length xs - c - 1) 0 ≡ get_or ys (length ys - c - 1) 0 → ⊥) → c ≡ end_behind a xs ys
-        unfolding end_behind
-        ends_differ e =
-            bytes_differ (reverse (drop a xs)) (reverse (drop a ys)) c s.rest (omega (arith, behind_long a xs)) (omega (arith, behind_long a ys))
-            (λ q. e (sym (from_end xs a c hx h) ∙ q ∙ from_end ys a c hy k))
+      ends_differ e =
+          bytes_differ (reverse (drop a xs)) (reverse (drop a ys)) c s.rest (omega (arith, behind_long a xs)) (omega (arith, behind_long a ys))
+          (λ q. e (sym (from_end xs a c hx h) ∙ q ∙ from_end ys a c hy k))
 
 -- where a is the common front, that is c of 01
 pub end_is : (xs ys : List ℕ) (a : ℕ) → a ≡ length (common xs ys) → end_behind a xs ys ≡ common_end xs ys

@@ -1,20 +1,20 @@
 -- Questions 1 and 2, byte by byte.
--- `first_high` takes one byte at a time, as the loop does.
+-- By induction on the text, as `first_high` takes one byte at a time.
 -- Assumes nothing.
 use mathlib.Core.Path.{◌≡◌, refl}
 use mathlib.Core.Bool.{Bool, true, false}
 use mathlib.Core.List.{List, [], ◌∷◌}
-use Prim.Native.Nat.{ℕ, suc, ◌+◌, ◌≤◌, ◌<◌}
-use native.Mathlib.Numerals.{add-one}
+use Prim.Native.Nat.{ℕ, zero, suc, ◌+◌, ◌≤◌, ◌<◌}
+use native.Mathlib.Nat.{add-zero}
 use native.Mathlib.Omega.{arith}
 use lib.Bits.{bit_or, or_add_and, and_le_l, and_le_r}
 use lib.Dec.{leb}
-use lib.ListN.{length, get_or, drop, drop_of_length-le}
+use lib.ListN.{length, get_or}
 use borrow.Author.Tests.{le-leb, lt-leb, leb-true}
-use Rattle.program.specs.Lists.{drop_next}
 use Rattle.records.specs.Questions.{q_length, q_ascii}
 use Rattle.records.specs.Pieces.{Verdict, fine, refused, first_high, text_asked}
 use Rattle.records.specs.Limits.{text_limit, byte_limit}
+use Rattle.text_whole.specs.Texts.{AllLow}
 
 pub or_left : (a b : ℕ) → a ≤ bit_or a b
 or_left a b = omega (arith, or_add_and a b, and_le_r a b)
@@ -31,24 +31,21 @@ pub asked_is : (xs : List ℕ) (v : Verdict) → length xs ≤ text_limit → fi
 unfolding text_asked
 asked_is xs v h e = let t : leb (length xs) text_limit ≡ true = le-leb _ _ h in rw (text_asked, t) e
 
-pub all_low : (i : ℕ) (xs : List ℕ) → ((k : ℕ) → k < length xs → get_or xs k 0 ≤ byte_limit) → first_high i xs ≡ fine
+pub all_low : (i : ℕ) (xs : List ℕ) → AllLow xs (length xs) → first_high i xs ≡ fine
 unfolding first_high
 all_low i [] h = refl
 all_low i (x ∷ xs) h =
     let t : leb x byte_limit ≡ true = le-leb x byte_limit (h 0 (omega arith)) in
     rw (first_high, t) (all_low (suc i) xs (λ k l. h (suc k) (omega arith)))
 
-pub low_next : (i : ℕ) (xs : List ℕ) → i < length xs → get_or xs i 0 ≤ byte_limit → first_high i (drop i xs) ≡ first_high (i + 1) (drop (i + 1) xs)
+pub high_at : (i p : ℕ) (xs : List ℕ) → p < length xs → byte_limit < get_or xs p 0 → AllLow xs p → first_high i xs ≡ refused q_ascii (i + p)
 unfolding first_high
-low_next i xs h l = let t : leb (get_or xs i 0) byte_limit ≡ true = le-leb _ _ l in rw (drop_next xs i h, first_high, t, add-one)
-
-pub high_here : (i : ℕ) (xs : List ℕ) → i < length xs → byte_limit < get_or xs i 0 → first_high i (drop i xs) ≡ refused q_ascii i
-unfolding first_high
-high_here i xs h l = let t : leb (get_or xs i 0) byte_limit ≡ false = lt-leb _ _ l in rw (drop_next xs i h, first_high, t)
-
-pub low_end : (i : ℕ) (xs : List ℕ) → length xs ≤ i → first_high i (drop i xs) ≡ fine
-unfolding first_high
-low_end i xs h = rw (drop_of_length-le xs h)
+high_at i p [] h l g = absurd (omega arith)
+high_at i zero (x ∷ xs) h l g = let t : leb x byte_limit ≡ false = lt-leb _ _ l in rw (first_high, t, add-zero i)
+high_at i (suc p) (x ∷ xs) h l g =
+    let t : leb x byte_limit ≡ true = le-leb x byte_limit (g 0 (omega arith)) in
+    let e : i + suc p ≡ suc i + p = omega arith in
+    rw (first_high, t, e) (high_at (suc i) p xs (omega arith) l (λ k m. g (suc k) (omega arith)))
 
 -- question 1
 pub not_long : (text : List ℕ) → fine ≡ text_asked text → length text ≤ 16777216

@@ -1,7 +1,12 @@
 -- How far two texts have been compared.
 -- Assumes nothing.
 use Rattle.std.specs.Prelude.{◌≡◌, List, reverse, ℕ, ◌+◌, ◌-◌, ◌≤◌, ◌<◌, length, get_or, drop}
+use Rattle.records.specs.Limits.{byte_limit}
 use Rattle.records.specs.Pieces.{common}
+
+-- question 2 refuses none of the first n bytes
+abbrev pub AllLow : List ℕ → ℕ → Type 0
+AllLow xs n = (k : ℕ) → k < n → get_or xs k 0 ≤ byte_limit
 
 -- the n bytes at p of one and at q of the other are the same
 abbrev pub Same : (n p q : ℕ) → List ℕ → List ℕ → Type 0

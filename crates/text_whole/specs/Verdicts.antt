@@ -1,10 +1,9 @@
 -- The verdict of questions that are asked of a text or of room, as the definitions have it.
 -- Assumes nothing.
-use Rattle.records.specs.Pieces.{fine, refused}
-use Rattle.records.specs.Pieces as pieces
-use Rattle.text_whole.specs.declared.Verdict.{Verdict}
-use Rattle.text_whole.specs.declared.Verdict.TheVariants.{Fine, Refused}
+use Rattle.std.specs.Prelude.{Result, Ok, Err}
+use Rattle.records.specs.Pieces.{Verdict, fine, refused}
+use Rattle.records.specs.declared.Refusal.{Refusal}
 
-abbrev pub verdict : Verdict → pieces.Verdict
-verdict Fine = fine
-verdict (Refused q p) = refused q p
+abbrev pub verdict : Result (Unit {0}) Refusal → Verdict
+verdict (Ok _) = fine
+verdict (Err r) = refused r.question r.place

@@ -1,52 +1,55 @@
 // The text as a whole: questions 1 and 2, and what an older and a newer text have in common.
 #![tactic(auto)]
 
-ghost use Rattle.std.specs.Prelude.{◌≡◌, ℕ, ◌+◌, ◌-◌, ◌≤◌, ◌<◌, length, get_or};
+ghost use Rattle.std.specs.Prelude.{◌≡◌, ℕ, ◌+◌, ◌≤◌, ◌<◌, length, get_or, MatchOption};
+ghost use Rattle.records.specs.Limits.{byte_limit};
 ghost use Rattle.records.specs.Pieces.{text_asked, common, common_end};
 ghost use Rattle.text_whole.specs.Verdicts.{verdict};
-ghost use Rattle.text_whole.specs.Texts.{Same, Shares, Ends};
+ghost use Rattle.text_whole.specs.Texts.{AllLow, Same, Shares, Ends};
 
-// What the questions answer: all is fine, or the number and the place of the first no.
-#[derive(Clone, Copy)]
-pub enum Verdict {
-    Fine,
-    Refused(u64, u64),
-}
+use records::Refusal;
 
-// The limit as a place.
-const MOST_BYTES: u64 = records::TEXT_LIMIT as u64;
+// What the questions answer: all is fine, or the first no.
+pub type Verdict = Result<(), Refusal>;
 
 // A number that no byte exceeds. Nothing leaves the loop early, so that it is compiled to wide steps.
 fn most(text: &[u8]) -> u8
     ensures { (k : ℕ) → k < length text.now → get_or text.now k 0 ≤ result }
 {
     let mut m: u8 = 0;
-    let mut i = 0;
-    while i < text.len() {
-        m = m | text[i];
-        i += 1;
+    for b in text {
+        m |= *b;
     }
     m
+}
+
+// Where the first byte stands that question 2 refuses.
+fn first_high(text: &[u8]) -> Option<usize>
+    ensures { MatchOption result (AllLow text.now (length text.now)) (λ i. (i < length text.now) × (byte_limit < get_or text.now i 0) × AllLow text.now i) }
+{
+    text.iter().position(|b| records::BYTE_LIMIT < *b)
 }
 
 // Questions 1 and 2.
 pub fn text_asked(text: &[u8]) -> Verdict
     ensures { verdict result ≡ text_asked text.now }
 {
-    if MOST_BYTES < text.len() as u64 {
-        return Verdict::Refused(records::Q_LENGTH, MOST_BYTES);
+    if records::TEXT_LIMIT < text.len() {
+        return Err(Refusal {
+            question: records::Q_LENGTH,
+            place: records::TEXT_LIMIT,
+        });
     }
     if most(text) <= records::BYTE_LIMIT {
-        return Verdict::Fine;
+        return Ok(());
     }
-    let mut i = 0;
-    while i < text.len() {
-        if records::BYTE_LIMIT < text[i] {
-            return Verdict::Refused(records::Q_ASCII, i as u64);
-        }
-        i += 1;
+    if let Some(place) = first_high(text) {
+        return Err(Refusal {
+            question: records::Q_ASCII,
+            place,
+        });
     }
-    Verdict::Fine
+    Ok(())
 }
 
 // Texts are compared by blocks of so many bytes first.
@@ -58,10 +61,8 @@ fn differ(older: &[u8], newer: &[u8], p: usize, q: usize) -> u8
     ensures { result ≡ 0 → Same 64 p q older.now newer.now }
 {
     let mut d: u8 = 0;
-    let mut k: usize = 0;
-    while k < BLOCK {
-        d = d | (older[p + k] ^ newer[q + k]);
-        k += 1;
+    for k in 0..BLOCK {
+        d |= older[p + k] ^ newer[q + k];
     }
     d
 }
@@ -70,34 +71,27 @@ fn differ(older: &[u8], newer: &[u8], p: usize, q: usize) -> u8
 fn common_blocks(older: &[u8], newer: &[u8]) -> usize
     ensures { Shares older.now newer.now result }
 {
-    let mut i: usize = 0;
-    while BLOCK <= older.len() - i {
-        if newer.len() - i < BLOCK {
-            return i;
-        }
+    let blocks = older.len().min(newer.len()) / BLOCK;
+    for k in 0..blocks {
+        let i = k * BLOCK;
         if differ(older, newer, i, i) != 0 {
             return i;
         }
-        i += BLOCK;
     }
-    i
+    blocks * BLOCK
 }
 
 // "let a be the longest common prefix of older and newer"
 pub fn common(older: &[u8], newer: &[u8]) -> usize
     ensures { result ≡ length (common older.now newer.now) }
 {
-    let mut i = common_blocks(older, newer);
-    while i < older.len() {
-        if newer.len() <= i {
-            return i;
-        }
+    let shorter = older.len().min(newer.len());
+    for i in common_blocks(older, newer)..shorter {
         if older[i] != newer[i] {
             return i;
         }
-        i += 1;
     }
-    i
+    shorter
 }
 
 // How much of the end is common by whole blocks, behind a.
@@ -105,23 +99,16 @@ fn end_blocks(older: &[u8], newer: &[u8], a: usize) -> usize
     requires { (a ≤ length older.now) × (a ≤ length newer.now) }
     ensures { Ends older.now newer.now a result }
 {
-    let mut c: usize = 0;
-    while BLOCK <= older.len() - a - c {
-        if newer.len() - a - c < BLOCK {
+    let blocks = (older.len().min(newer.len()) - a) / BLOCK;
+    for k in 0..blocks {
+        let c = k * BLOCK;
+        let p = older.len() - c - BLOCK;
+        let q = newer.len() - c - BLOCK;
+        if differ(older, newer, p, q) != 0 {
             return c;
         }
-        if differ(
-            older,
-            newer,
-            older.len() - c - BLOCK,
-            newer.len() - c - BLOCK,
-        ) != 0
-        {
-            return c;
-        }
-        c += BLOCK;
     }
-    c
+    blocks * BLOCK
 }
 
 // "c the longest common suffix of what remains of both"
@@ -129,15 +116,11 @@ pub fn common_end(older: &[u8], newer: &[u8], a: usize) -> usize
     requires { a ≡ length (common older.now newer.now) }
     ensures { result ≡ common_end older.now newer.now }
 {
-    let mut c = end_blocks(older, newer, a);
-    while c < older.len() - a {
-        if newer.len() - a <= c {
-            return c;
-        }
+    let left = older.len().min(newer.len()) - a;
+    for c in end_blocks(older, newer, a)..left {
         if older[older.len() - c - 1] != newer[newer.len() - c - 1] {
             return c;
         }
-        c += 1;
     }
-    c
+    left
 }

@@ -38,12 +38,7 @@ fn no_type(depth: usize) -> u64
 
 // `{ T, T, .. }`, behind the opening brace.
 #[cycle(type_readers)]
-fn parse_struct_fields(
-    text: &[u8],
-    words: &mut [u64],
-    p: Parsed,
-    depth: usize,
-) -> Listed
+fn parse_struct_fields(text: &[u8], words: &mut [u64], p: Parsed, depth: usize) -> Listed
     ensures { Leads (struct_fields (parse_type depth)) 0 [] (made (listed result.n 0) text.now p) text.now p p words.old result.p words.new }
 {
     let mut q = lexer::eat_ws(text, p);
@@ -55,17 +50,14 @@ fn parse_struct_fields(
             dots: 0,
         };
     }
-    let mut left: usize = records::LIST_TURNS;
     let mut n: u16 = 0;
-    while 0 < left {
+    for _left in (0..records::LIST_TURNS).rev() {
         let r = parse_type(text, words, q, depth);
         let r1 = lexer::count_child(r, n);
         let e = lexer::comma_or(text, r1, b'}');
         n = one_more(n);
         q = e.p;
-        if e.more {
-            left -= 1;
-        } else {
+        if !e.more {
             return Listed { p: q, n, dots: 0 };
         }
     }
@@ -75,12 +67,7 @@ fn parse_struct_fields(
 
 // Types with attributes, `...` in the last place, through the parenthesis (`parse_type_list`). The return type counts with them.
 #[cycle(type_readers)]
-pub fn parse_type_list(
-    text: &[u8],
-    words: &mut [u64],
-    p: Parsed,
-    depth: usize,
-) -> Listed
+pub fn parse_type_list(text: &[u8], words: &mut [u64], p: Parsed, depth: usize) -> Listed
     ensures { Leads (parse_type_list (no_type depth) (parse_type depth)) 0 [] (made (listed result.n result.dots) text.now p) text.now p p words.old result.p words.new }
 {
     let mut q = lexer::eat_ws(text, p);
@@ -93,9 +80,8 @@ pub fn parse_type_list(
         };
     }
     let bad = no_type(depth);
-    let mut left: usize = records::LIST_TURNS;
     let mut n: u16 = 1;
-    while 0 < left {
+    for _left in (0..records::LIST_TURNS).rev() {
         let r = lexer::eat_ws(text, q);
         if lexer::looks(text, r, b'.') {
             let r1 = lexer_names::three_dots(text, r, bad);
@@ -112,9 +98,7 @@ pub fn parse_type_list(
         let e = lexer::comma_or(text, r5, b')');
         n = one_more(n);
         q = e.p;
-        if e.more {
-            left -= 1;
-        } else {
+        if !e.more {
             return Listed { p: q, n, dots: 0 };
         }
     }
@@ -147,12 +131,7 @@ fn array_type(
 
 // `{..}`, behind the opening brace.
 #[cycle(type_readers)]
-fn struct_type(
-    text: &[u8],
-    words: &mut [u64],
-    p: Parsed,
-    depth: usize,
-) -> Parsed
+fn struct_type(text: &[u8], words: &mut [u64], p: Parsed, depth: usize) -> Parsed
     ensures { Leads (struct_type (parse_type depth)) 1 [] (made same text.now p) text.now p p words.old result words.new }
 {
     let q = node_words::push(words, p, 0);
@@ -163,12 +142,7 @@ fn struct_type(
 
 // `<{..}>` and `<N x T>`, behind the `<`.
 #[cycle(type_readers)]
-fn packed_type(
-    text: &[u8],
-    words: &mut [u64],
-    p: Parsed,
-    depth: usize,
-) -> Parsed
+fn packed_type(text: &[u8], words: &mut [u64], p: Parsed, depth: usize) -> Parsed
     ensures { Leads (packed_type (parse_type depth)) 2 [] (made same text.now p) text.now p p words.old result words.new }
 {
     if lexer::looks(text, p, b'{') {
@@ -184,12 +158,7 @@ fn packed_type(
 
 // A type without what may stand behind it. No keyword begins with a byte that is tried first.
 #[cycle(type_readers)]
-fn parse_base_type(
-    text: &[u8],
-    words: &mut [u64],
-    p: Parsed,
-    depth: usize,
-) -> Parsed
+fn parse_base_type(text: &[u8], words: &mut [u64], p: Parsed, depth: usize) -> Parsed
     ensures { Reads (parse_base_type (parse_type depth)) text.now p words.old result words.new }
 {
     if lexer::looks(text, p, b'i') {
@@ -217,18 +186,11 @@ fn parse_base_type(
 
 // What may stand behind a type, whose words begin at p0.
 #[cycle(type_readers)]
-fn type_suffixes(
-    text: &[u8],
-    words: &mut [u64],
-    p0: Parsed,
-    p: Parsed,
-    depth: usize,
-) -> Parsed
+fn type_suffixes(text: &[u8], words: &mut [u64], p0: Parsed, p: Parsed, depth: usize) -> Parsed
     ensures { (t : List ℕ) → Leads (suffixes 16777217 (no_type depth) (parse_type depth) t) 0 t (typed (parse_type_list (no_type depth) (parse_type depth)) text.now p0) text.now p0 p words.old result words.new }
 {
     let mut q = p;
-    let mut left: usize = records::TURNS;
-    while 0 < left {
+    for _left in (0..records::TURNS).rev() {
         let r = lexer::eat_ws(text, q);
         if lexer::looks(text, r, b'(') {
             let s = lexer::pass(text, r, 1);
@@ -238,7 +200,6 @@ fn type_suffixes(
             if lexer::looks(text, s2, b'*') {
                 let t = lexer::pass(text, s2, 1);
                 q = node_words::replace(words, p0, t, records::PTR_NODE);
-                left -= 1;
             } else {
                 return node_words::back_to(r, s2);
             }
@@ -247,7 +208,6 @@ fn type_suffixes(
             if lexer::looks(text, s, b'*') {
                 let t = lexer::pass(text, s, 1);
                 q = node_words::replace(words, p0, t, records::PTR_NODE);
-                left -= 1;
             } else {
                 return s;
             }
@@ -258,12 +218,7 @@ fn type_suffixes(
 
 // A type (`parse_type`). At a parenthesis behind it that no `*` follows the cursor is back at the parenthesis.
 #[cycle(type_readers)]
-pub fn parse_type(
-    text: &[u8],
-    words: &mut [u64],
-    p: Parsed,
-    depth: usize,
-) -> Parsed
+pub fn parse_type(text: &[u8], words: &mut [u64], p: Parsed, depth: usize) -> Parsed
     ensures { Types depth text.now p words.old result words.new }
 {
     let q = lexer::eat_ws(text, p);

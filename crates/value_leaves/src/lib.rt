@@ -1,12 +1,13 @@
 // The values that hold no other, and what stands in front of constant expressions. Each function writes the words of what it reads behind the cursor.
 #![tactic(auto)]
 
-ghost use Rattle.std.specs.Prelude.{◌≡◌, true, List, [], ◌∷◌, ℕ};
+ghost use Rattle.std.specs.Prelude.{◌≡◌, true, List, [], ◌∷◌, ℕ, ◌≤◌, length};
 ghost use Rattle.program.specs.Bytes.{bytes};
 ghost use Rattle.program.specs.Prog.{ret};
 ghost use Rattle.records.specs.Words.{node};
 ghost use Rattle.records.specs.Limits.{turns};
-ghost use Rattle.grammar.specs.Values.{conv_ops, bin_ops, cstring, leaf_values, parse_gep_flags};
+ghost use Rattle.grammar.specs.Values.{cstring, leaf_values, parse_gep_flags};
+ghost use Rattle.lexer.specs.Table.{words_of};
 ghost use Rattle.lexer.specs.Step.{word_p};
 ghost use Rattle.lexer.specs.Reads.{Leads, Reads, Gives, made, same};
 ghost use Rattle.value_leaves.specs.Leaf.{Tried, key_values, Op, FlagStep};
@@ -14,65 +15,44 @@ ghost use Rattle.value_leaves.specs.Leaf.{Tried, key_values, Op, FlagStep};
 use lexer::Parsed;
 use number_nodes::Hit;
 
-// An operator's rank, and whether one stands there.
+// An operator's rank, where one stands.
 #[derive(Clone, Copy)]
 pub struct Oper {
     pub p: Parsed,
-    pub r: u8,
-    pub hit: bool,
+    pub rank: Option<u8>,
 }
 
-// A conversion's word (`match_conv_op`).
-pub fn match_conv_op(text: &[u8], p: Parsed) -> Oper
-    ensures { Op conv_ops text.now p result.p result.r result.hit }
+// The conversions (`match_conv_op`).
+pub static CONV_OPS: [&[u8]; 6] = [
+    b"trunc",
+    b"zext",
+    b"sext",
+    b"ptrtoint",
+    b"inttoptr",
+    b"bitcast",
+];
+
+// The binary operations (`match_bin_op`).
+pub static BIN_OPS: [&[u8]; 13] = [
+    b"add", b"sub", b"mul", b"udiv", b"sdiv", b"urem", b"srem", b"and", b"or", b"xor", b"shl",
+    b"lshr", b"ashr",
+];
+
+// An operator of a table.
+pub fn match_op(text: &[u8], p: Parsed, table: &[&[u8]]) -> Oper
+    requires { length table.now ≤ 256 }
+    ensures { Op (words_of table.now) text.now p result.p result.rank }
 {
-    let lens: [u8; 6] = [5, 4, 4, 8, 8, 7];
-    let k = lexer_keywords::match_rank(
-        text,
-        p,
-        &lens,
-        b"trunczextsextptrtointinttoptrbitcast",
-    );
-    let q = k.p;
-    let r = k.r;
-    if r < 6 {
+    let k = lexer_keywords::match_rank(text, p, table);
+    if k.r < table.len() {
         return Oper {
-            p: q,
-            r: r as u8,
-            hit: true,
+            p: k.p,
+            rank: Some(k.r as u8),
         };
     }
     Oper {
-        p: q,
-        r: 0,
-        hit: false,
-    }
-}
-
-// A binary operation's word (`match_bin_op`).
-pub fn match_bin_op(text: &[u8], p: Parsed) -> Oper
-    ensures { Op bin_ops text.now p result.p result.r result.hit }
-{
-    let lens: [u8; 13] = [3, 3, 3, 4, 4, 4, 4, 3, 2, 3, 3, 4, 4];
-    let k = lexer_keywords::match_rank(
-        text,
-        p,
-        &lens,
-        b"addsubmuludivsdivuremsremandorxorshllshrashr",
-    );
-    let q = k.p;
-    let r = k.r;
-    if r < 13 {
-        return Oper {
-            p: q,
-            r: r as u8,
-            hit: true,
-        };
-    }
-    Oper {
-        p: q,
-        r: 0,
-        hit: false,
+        p: k.p,
+        rank: None,
     }
 }
 
@@ -135,14 +115,11 @@ pub fn parse_gep_flags(text: &[u8], p: Parsed) -> Flags
 {
     let mut q = p;
     let mut v: u8 = records::D_NONE;
-    let mut left: usize = records::TURNS;
-    while 0 < left {
+    for _left in (0..records::TURNS).rev() {
         let f = gep_flag(text, q, v);
         q = f.p;
         v = f.v;
-        if f.more {
-            left -= 1;
-        } else {
+        if !f.more {
             return Flags {
                 p: q,
                 v,

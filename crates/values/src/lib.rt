@@ -8,6 +8,7 @@ ghost use Rattle.lexer.specs.Reads.{Leads, Reads, Counts, made, same};
 
 use lexer::Parsed;
 use types::Listed;
+use value_leaves::{BIN_OPS, CONV_OPS};
 
 // Typed values behind commas, through the closing byte, behind the opening one (`parse_array_const`, `parse_struct_const`).
 #[cycle(value_readers)]
@@ -29,17 +30,14 @@ fn pair_list(
             dots: 0,
         };
     }
-    let mut left: usize = records::LIST_TURNS;
     let mut n: u16 = 0;
-    while 0 < left {
+    for _left in (0..records::LIST_TURNS).rev() {
         let x = pair_child(text, words, q, n, depth);
         let q1 = x.p;
         let e = lexer::comma_or(text, q1, end);
         n = x.n;
         q = e.p;
-        if e.more {
-            left -= 1;
-        } else {
+        if !e.more {
             return Listed { p: q, n, dots: 0 };
         }
     }
@@ -98,9 +96,8 @@ fn gep_indices(
     ensures { Leads (gep_indices 65536 (parse_type depth) (parse_value depth) 3 []) 0 [] (made (listed result.n 0) text.now p) text.now p p words.old result.p words.new }
 {
     let mut q = p;
-    let mut left: usize = records::LIST_TURNS;
     let mut n: u16 = 3;
-    while 0 < left {
+    for _left in (0..records::LIST_TURNS).rev() {
         let e = lexer::comma_or(text, q, b')');
         let q1 = e.p;
         if e.more {
@@ -108,7 +105,6 @@ fn gep_indices(
             let x = pair_child(text, words, q2, n, depth);
             q = x.p;
             n = x.n;
-            left -= 1;
         } else {
             return Listed { p: q1, n, dots: 0 };
         }
@@ -194,17 +190,15 @@ fn const_exprs(
         let q = lexer::pass_word(text, p, b"getelementptr");
         return parse_ce_gep(text, words, q, depth);
     }
-    let c = value_leaves::match_conv_op(text, p);
-    let q = c.p;
-    if c.hit {
-        return parse_ce_conv(text, words, q, c.r, depth);
+    let c = value_leaves::match_op(text, p, &CONV_OPS);
+    if let Some(op) = c.rank {
+        return parse_ce_conv(text, words, c.p, op, depth);
     }
-    let b = value_leaves::match_bin_op(text, q);
-    let q1 = b.p;
-    if b.hit {
-        return parse_ce_bin(text, words, q1, b.r, depth);
+    let b = value_leaves::match_op(text, c.p, &BIN_OPS);
+    if let Some(op) = b.rank {
+        return parse_ce_bin(text, words, b.p, op, depth);
     }
-    lexer::refuse(q1, records::Q_VALUE)
+    lexer::refuse(b.p, records::Q_VALUE)
 }
 
 // A value (`parse_value`).

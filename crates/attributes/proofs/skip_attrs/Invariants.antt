@@ -5,7 +5,4 @@ use Rattle.lexer.specs.Reads.{Comes}
 use Rattle.attributes.proofs.skip_attrs.Given as goal
 
 abbrev pub invariant-loop-left : goal.invariant-loop-left
-invariant-loop-left l = Comes (skip_attrs_in turns) (skip_attrs_in l.left) l.text l.initial.q l.q
-
-abbrev pub decreases-loop-left : goal.decreases-loop-left
-decreases-loop-left l = l.left
+invariant-loop-left l = Comes (skip_attrs_in turns) (skip_attrs_in l._left) l.text l.initial.q l.q

@@ -1,12 +1,13 @@
 -- The digits are one scan, and `group_end` is the place where it stops.
+use borrow.Author.Rules.{rules}
 use Rattle.program.specs.Prog.{run}
-use Rattle.lexer.proofs.Laws.{given, kept}
+use Rattle.lexer.proofs.Laws.{given, handed}
 use Rattle.attributes.specs.Step.{group_digits}
 use Rattle.attributes.proofs.skip_group.Goals as goal
 
-pub returns-in-Ok : goal.returns-in-Ok
+pub returns : goal.returns
 unfolding group_digits run
-returns-in-Ok c = rw c.in-Ok.is (given _ _ (λ i. rw c.group_end-i.ensures))
+returns c = rw c.in_ok-c.was (given _ _ (λ i. rw c.group_end.ensures))
 
-pub returns-in-Refused : goal.returns-in-Refused
-returns-in-Refused c = rw c.in-Refused.is (kept _ _)
+pub returns-in_err-c : goal.returns-in_err-c
+returns-in_err-c c = handed c.in_err-c.was (search rules)

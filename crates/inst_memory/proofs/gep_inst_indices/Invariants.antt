@@ -9,7 +9,4 @@ use Rattle.lexer.specs.Reads.{Leads, reach}
 use Rattle.inst_memory.proofs.gep_inst_indices.Given as goal
 
 abbrev pub invariant-loop-left : goal.invariant-loop-left
-invariant-loop-left l = Leads (gep_inst_indices turns 2 []) 0 [] (reach (gep_inst_indices l.left l.n) l.text l.initial.q) l.text l.initial.q l.initial.q l.initial.words l.q l.words × (length l.words ≡ length l.initial.words)
-
-abbrev pub decreases-loop-left : goal.decreases-loop-left
-decreases-loop-left l = l.left
+invariant-loop-left l = Leads (gep_inst_indices turns 2 []) 0 [] (reach (gep_inst_indices l._left l.n) l.text l.initial.q) l.text l.initial.q l.initial.q l.initial.words l.q l.words × (length l.words ≡ length l.initial.words)

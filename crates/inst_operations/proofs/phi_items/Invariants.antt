@@ -7,7 +7,4 @@ use Rattle.lexer.specs.Reads.{Leads, reach}
 use Rattle.inst_operations.proofs.phi_items.Given as goal
 
 abbrev pub invariant-loop-left : goal.invariant-loop-left
-invariant-loop-left l = Leads (phi_items 65536 1 []) 0 [] (reach (phi_items l.left l.n) l.text l.initial.q) l.text l.initial.q l.initial.q l.initial.words l.q l.words × (length l.words ≡ length l.initial.words)
-
-abbrev pub decreases-loop-left : goal.decreases-loop-left
-decreases-loop-left l = l.left
+invariant-loop-left l = Leads (phi_items 65536 1 []) 0 [] (reach (phi_items l._left l.n) l.text l.initial.q) l.text l.initial.q l.initial.q l.initial.words l.q l.words × (length l.words ≡ length l.initial.words)

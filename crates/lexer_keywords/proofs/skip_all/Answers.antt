@@ -1,32 +1,36 @@
 use native.Mathlib.Omega.{arith}
 use Rattle.grammar.specs.Lexer.{skip_all}
-use Rattle.records.specs.Limits.{turns}
 use Rattle.lexer.specs.Table.{words_of}
-use Rattle.lexer.proofs.Laws.{g_then, g_done, g_stay, g_on, g_more_turns, g_no_turns}
+use Rattle.lexer.proofs.Laws.{g_then, g_done, g_stay, g_on, g_more, g_no_more}
 use Rattle.lexer_keywords.proofs.Ranks.{g_rank_yes, g_rank_no, words_length}
 use Rattle.lexer_keywords.proofs.skip_all.Goals as goal
 
-pub loop-turn-init : goal.loop-turn-init
-loop-turn-init c = g_stay
+pub loop-left-init : goal.loop-left-init
+loop-left-init c = g_stay
 
 pub returns-then-table-k : goal.returns-then-table-k
 unfolding skip_all
 returns-then-table-k c =
-    g_on c.loop-turn.invariant
-    (g_more_turns (λ u. skip_all u (words_of c.args.table.now)) turns _ c.loop-turn-test.true
+    g_on c.loop-left.invariant
+    (g_more (λ u. skip_all u
+    (words_of c.args.table.now)) c.loop-left._left c.loop-left-test.true
     (g_then _ c.eat_ws.ensures
-    (g_rank_no _ _ _ c.match_rank-k.ensures (omega (arith, words_length c.args.table.now)) g_done)))
+    (g_rank_no _ _ _ c.match_rank-k.ensures (omega
+    (arith, words_length c.args.table.now)) g_done)))
 
-pub loop-turn-preserved : goal.loop-turn-preserved
+pub loop-left-preserved : goal.loop-left-preserved
 unfolding skip_all
-loop-turn-preserved c =
-    g_on c.loop-turn.invariant
-    (g_more_turns (λ u. skip_all u (words_of c.args.table.now)) turns _ c.loop-turn-test.true
+loop-left-preserved c =
+    g_on c.loop-left.invariant
+    (g_more (λ u. skip_all u
+    (words_of c.args.table.now)) c.loop-left._left c.loop-left-test.true
     (g_then _ c.eat_ws.ensures
-    (g_rank_yes _ _ _ c.match_rank-k.ensures (omega (arith, words_length c.args.table.now)) g_stay)))
+    (g_rank_yes _ _ _ c.match_rank-k.ensures (omega
+    (arith, words_length c.args.table.now)) g_stay)))
 
 pub returns : goal.returns
 unfolding skip_all
 returns c =
-    g_on c.loop-turn.invariant
-    (g_no_turns (λ u. skip_all u (words_of c.args.table.now)) turns _ c.loop-turn-test.false g_done)
+    g_on c.loop-left.invariant
+    (g_no_more (λ u. skip_all u
+    (words_of c.args.table.now)) c.loop-left._left c.loop-left-test.false g_done)

@@ -11,7 +11,4 @@ use Rattle.piece_block.proofs.parse_body.Given as goal
 
 abbrev pub invariant-loop-left : goal.invariant-loop-left
 invariant-loop-left l =
-    (l.n + l.left ≤ 16777217) × Leads (parse_body 16777217 l.counter 0 0 0 []) 0 [] (richly l.text (reach (parse_body l.left l.c l.label l.n l.over) l.text l.initial.q)) l.text l.initial.q l.initial.q l.initial.words l.q l.words × (length l.words ≡ length l.initial.words)
-
-abbrev pub decreases-loop-left : goal.decreases-loop-left
-decreases-loop-left l = l.left
+    (l.n + l._left ≤ 16777217) × Leads (parse_body 16777217 l.counter 0 0 0 []) 0 [] (richly l.text (reach (parse_body l._left l.c l.label l.n l.over) l.text l.initial.q)) l.text l.initial.q l.initial.q l.initial.words l.q l.words × (length l.words ≡ length l.initial.words)

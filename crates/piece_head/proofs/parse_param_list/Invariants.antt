@@ -8,7 +8,4 @@ use Rattle.piece_head.proofs.HeadLaws.{paying}
 use Rattle.piece_head.proofs.parse_param_list.Given as goal
 
 abbrev pub invariant-loop-left : goal.invariant-loop-left
-invariant-loop-left l = Leads (parse_params 65536 0 1 []) 2 [] (paying 2 (reach (parse_params l.left l.c l.n) l.text l.initial.q)) l.text l.initial.q l.initial.q l.initial.words l.q l.words × (length l.words ≡ length l.initial.words)
-
-abbrev pub decreases-loop-left : goal.decreases-loop-left
-decreases-loop-left l = l.left
+invariant-loop-left l = Leads (parse_params 65536 0 1 []) 2 [] (paying 2 (reach (parse_params l._left l.c l.n) l.text l.initial.q)) l.text l.initial.q l.initial.q l.initial.words l.q l.words × (length l.words ≡ length l.initial.words)

@@ -6,4 +6,4 @@ pub returns-then-words-at : goal.returns-then-words-at
 returns-then-words-at c = behind_none c.args.words.now c.args.at c.if-words-at.true
 
 pub returns : goal.returns
-returns c = behind_there c.args.words.now c.args.at c.least.result c.least.ensures
+returns c = behind_there c.args.words.now c.args.at c.min.result c.min.ensures

@@ -1,8 +1,6 @@
 -- Entries are joined, so where the last of them ends is the sum of their lengths.
-use Prim.Native.Nat.{◌+◌, ◌-◌, ◌*◌}
 use mathlib.Core.Path.{refl}
 use native.Mathlib.Omega.{arith}
-use Rattle.records.specs.Limits.{entry_words}
 use Rattle.piece_directory.specs.Olds.{olds_of}
 use Rattle.reread_kept.proofs.Front.{end_size, end_words, no_size, no_words}
 use Rattle.reread_kept.proofs.behind.Goals as goal
@@ -19,26 +17,10 @@ returns-then-number-eq0 c = (
   c.counter_at-counter.ensures,
 )
 
-pub overflow_add-result : goal.overflow_add-result
-overflow_add-result c =
-    omega (
-      arith,
-      c.shared_slice_known-2-1.given
-          ((c.args.number - 1) * entry_words),
-    )
-
-pub overflow_add-result-2 : goal.overflow_add-result-2
-overflow_add-result-2 c =
-    omega (
-      arith,
-      c.shared_slice_known-2-1.given
-          ((c.args.number - 1) * entry_words + 1),
-    )
-
 pub returns : goal.returns
 returns c = (
   refl,
-  end_size c.args.entries c.args.number c.args.directory.now (omega arith) c.requires.number_le_entries c.requires.joined,
-  end_words c.args.entries c.args.number c.args.directory.now (omega arith) c.requires.number_le_entries c.requires.joined,
+  rw (c.entry-last.ensures.start, c.entry-last.ensures.bytes) (end_size c.args.entries c.args.number c.args.directory.now (omega arith) c.requires.number_le_entries c.requires.joined),
+  rw (c.entry-last.ensures.first, c.entry-last.ensures.words) (end_words c.args.entries c.args.number c.args.directory.now (omega arith) c.requires.number_le_entries c.requires.joined),
   c.counter_at-counter.ensures,
 )

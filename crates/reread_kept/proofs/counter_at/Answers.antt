@@ -15,4 +15,5 @@ returns-then-entries-number c =
 
 pub returns : goal.returns
 returns c =
-    begins_at c.args.entries c.args.number c.args.directory.now c.requires c.if-number-eq0.false c.if-entries-number.false
+    rw c.entry.ensures.counter
+    (begins_at c.args.entries c.args.number c.args.directory.now c.requires c.if-number-eq0.false c.if-entries-number.false)

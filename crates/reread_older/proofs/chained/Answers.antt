@@ -13,30 +13,25 @@ pub loop-i-init : goal.loop-i-init
 loop-i-init c =
     asks_first c.args.text_len c.args.older.words c.args.older.entries c.args.directory.now (omega arith) (omega arith)
 
-pub returns-then-x-pos : goal.returns-then-x-pos
-returns-then-x-pos c =
-    start_differs c.args.text_len c.args.older.words c.args.older.entries c.args.directory.now c.loop-i.i c.loop-i.pos c.loop-i.word c.loop-i.invariant c.loop-i-test.true c.if-x-pos.true
+pub returns-then-old-pos : goal.returns-then-old-pos
+returns-then-old-pos c = start_differs c.args.text_len c.args.older.words c.args.older.entries c.args.directory.now c.loop-i.i c.loop-i.pos c.loop-i.word c.loop-i.invariant (omega arith) (rw c.entry-old.ensures.start at c.if-old-pos.true)
 
-pub returns-then-y-word : goal.returns-then-y-word
-returns-then-y-word c =
-    first_differs c.args.text_len c.args.older.words c.args.older.entries c.args.directory.now c.loop-i.i c.loop-i.pos c.loop-i.word c.loop-i.invariant c.loop-i-test.true c.if-y-word.true
+pub returns-then-old-word : goal.returns-then-old-word
+returns-then-old-word c = first_differs c.args.text_len c.args.older.words c.args.older.entries c.args.directory.now c.loop-i.i c.loop-i.pos c.loop-i.word c.loop-i.invariant (omega arith) (rw c.entry-old.ensures.first at c.if-old-word.true)
 
-pub returns-then-text-pos : goal.returns-then-text-pos
-returns-then-text-pos c =
-    text_ends c.args.text_len c.args.older.words c.args.older.entries c.args.directory.now c.loop-i.i c.loop-i.pos c.loop-i.word c.loop-i.invariant c.loop-i-test.true (omega arith)
+pub returns-then-text_len-pos : goal.returns-then-text_len-pos
+returns-then-text_len-pos c = text_ends c.args.text_len c.args.older.words c.args.older.entries c.args.directory.now c.loop-i.i c.loop-i.pos c.loop-i.word c.loop-i.invariant (omega arith) (omega arith)
 
-pub returns-then-words-word : goal.returns-then-words-word
-returns-then-words-word c =
-    words_end_lem c.args.text_len c.args.older.words c.args.older.entries c.args.directory.now c.loop-i.i c.loop-i.pos c.loop-i.word c.loop-i.invariant c.loop-i-test.true (omega arith)
+pub returns-then-older-word : goal.returns-then-older-word
+returns-then-older-word c = words_end_lem c.args.text_len c.args.older.words c.args.older.entries c.args.directory.now c.loop-i.i c.loop-i.pos c.loop-i.word c.loop-i.invariant (omega arith) (omega arith)
 
-pub returns-then-directory-at-gt-COUNTER_LIMIT : goal.returns-then-directory-at-gt-COUNTER_LIMIT
-returns-then-directory-at-gt-COUNTER_LIMIT c =
-    counter_high c.args.text_len c.args.older.words c.args.older.entries c.args.directory.now c.loop-i.i c.loop-i.pos c.loop-i.word c.loop-i.invariant c.loop-i-test.true c.if-directory-at-gt-COUNTER_LIMIT.true
+pub returns-then-old-gt-COUNTER_LIMIT : goal.returns-then-old-gt-COUNTER_LIMIT
+returns-then-old-gt-COUNTER_LIMIT c = counter_high c.args.text_len c.args.older.words c.args.older.entries c.args.directory.now c.loop-i.i c.loop-i.pos c.loop-i.word c.loop-i.invariant (omega arith) (omega arith)
 
 pub loop-i-preserved : goal.loop-i-preserved
 loop-i-preserved c =
-    asks_next c.args.text_len c.args.older.words c.args.older.entries c.args.directory.now c.loop-i.i c.loop-i.pos c.loop-i.word c.loop-i.invariant c.loop-i-test.true c.if-x-pos.false c.if-y-word.false (omega arith) (omega arith) c.if-directory-at-gt-COUNTER_LIMIT.false
+    rw (c.entry-old.ensures.bytes, c.entry-old.ensures.words)
+    (asks_next c.args.text_len c.args.older.words c.args.older.entries c.args.directory.now c.loop-i.i c.loop-i.pos c.loop-i.word c.loop-i.invariant (omega arith) (rw c.entry-old.ensures.start at c.if-old-pos.false) (rw c.entry-old.ensures.first at c.if-old-word.false) (omega arith) (omega arith) (omega arith))
 
 pub returns : goal.returns
-returns c =
-    asks_done c.args.text_len c.args.older.words c.args.older.entries c.args.directory.now c.loop-i.i c.loop-i.pos c.loop-i.word c.loop-i-test.false c.loop-i.invariant
+returns c = asks_done c.args.text_len c.args.older.words c.args.older.entries c.args.directory.now c.loop-i.i c.loop-i.pos c.loop-i.word (omega arith) c.loop-i.invariant

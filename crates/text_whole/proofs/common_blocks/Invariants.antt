@@ -1,11 +1,7 @@
--- The invariant: the first i bytes are common; 64 equal bytes are 64 steps of the common prefix.
-use Prim.Native.Nat.{◌-◌}
-use lib.ListN.{length}
+-- The invariant: the first k blocks are common; 64 equal bytes are 64 steps of the common prefix.
+use Prim.Native.Nat.{◌*◌}
 use Rattle.text_whole.specs.Texts.{Shares}
 use Rattle.text_whole.proofs.common_blocks.Given as goal
 
-abbrev pub invariant-loop-i : goal.invariant-loop-i
-invariant-loop-i l = Shares l.older l.newer l.i
-
-abbrev pub decreases-loop-i : goal.decreases-loop-i
-decreases-loop-i l = length l.older - l.i
+abbrev pub invariant-loop-k : goal.invariant-loop-k
+invariant-loop-k l = Shares l.older l.newer (l.k * 64)

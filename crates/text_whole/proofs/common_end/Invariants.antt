@@ -1,11 +1,6 @@
 -- The invariant: the last c bytes behind a are common; the first that differs from the end, or a, ends the common suffix.
-use Prim.Native.Nat.{◌-◌}
-use lib.ListN.{length}
 use Rattle.text_whole.specs.Texts.{Ends}
 use Rattle.text_whole.proofs.common_end.Given as goal
 
 abbrev pub invariant-loop-c : goal.invariant-loop-c
 invariant-loop-c l = Ends l.older l.newer l.a l.c
-
-abbrev pub decreases-loop-c : goal.decreases-loop-c
-decreases-loop-c l = length l.older - l.c

@@ -1,19 +1,16 @@
+use mathlib.Core.Path.{◌≡◌}
+use Prim.Native.Nat.{◌+◌, ◌-◌, ◌*◌, ◌/◌}
 use native.Mathlib.Omega.{arith}
 use Rattle.text_whole.proofs.Compare.{ends_none, ends_block}
 use Rattle.text_whole.proofs.end_blocks.Goals as goal
 
-pub loop-c-init : goal.loop-c-init
-loop-c-init c = ends_none c.args.older.now c.args.newer.now c.args.a
+pub loop-k-init : goal.loop-k-init
+loop-k-init c = ends_none c.args.older.now c.args.newer.now c.args.a
 
-pub returns-then-newer-a-lt-BLOCK : goal.returns-then-newer-a-lt-BLOCK
-returns-then-newer-a-lt-BLOCK c = c.loop-c.invariant
-
-pub returns-then-differ-ne0 : goal.returns-then-differ-ne0
-returns-then-differ-ne0 c = c.loop-c.invariant
-
-pub loop-c-preserved : goal.loop-c-preserved
-loop-c-preserved c =
-    ends_block c.args.older.now c.args.newer.now c.args.a (omega arith) (omega arith) c.loop-c.c (omega arith) (omega arith) (c.differ.ensures c.if-differ-ne0.false) c.loop-c.invariant
+pub loop-k-preserved : goal.loop-k-preserved
+loop-k-preserved c =
+    let e : (c.loop-k.k + 1) * 64 ≡ c.loop-k.k * 64 + 64 = omega arith in
+    rw e (ends_block c.args.older.now c.args.newer.now c.args.a (omega arith) (omega arith) (c.loop-k.k * 64) (omega arith) (omega arith) (c.differ.ensures c.if-differ-ne0.false) c.loop-k.invariant)
 
 pub returns : goal.returns
-returns c = c.loop-c.invariant
+returns c = let e : c.loop-k.k ≡ (c.min.result - c.args.a) / 64 = omega arith in rw e at c.loop-k.invariant

@@ -1,3 +1,4 @@
+use Rattle.std.proofs.lemmas.Bool.{not-false, not-true}
 use mathlib.Core.Path.{refl, ◌∙◌}
 use native.Mathlib.Omega.{arith}
 use Rattle.grammar.specs.Types.{struct_fields, parse_type_list, array_type, struct_type, packed_type, suffixes}
@@ -93,20 +94,20 @@ pub parse_struct_fields-loop-left-preserved : goal.parse_struct_fields-loop-left
 unfolding struct_fields
 parse_struct_fields-loop-left-preserved bound c = (
   go_on c.loop-left.invariant.0
-      (λ ws. items_more _ c.loop-left.left 125 c.loop-left.n _ (λ e. omega arith) c.loop-left-test.true c.parse_type-r.ensures c.count_child-r1.ensures
-      c.one_more-n.ensures ws c.comma_or-e.ensures c.if-e.true),
+      (λ ws. items_more _ c.loop-left._left 125 c.loop-left.n _ (λ e. omega arith) c.loop-left-test.true c.parse_type-r.ensures c.count_child-r1.ensures
+      c.one_more-n.ensures ws c.comma_or-e.ensures (not-false _ c.if-not-e.false)),
   c.parse_type-r.auto.words ∙ c.loop-left.invariant.1,
 )
 
-pub parse_struct_fields-returns-else-e : goal.parse_struct_fields-returns-else-e
+pub parse_struct_fields-returns-then-not-e : goal.parse_struct_fields-returns-then-not-e
 unfolding struct_fields
-parse_struct_fields-returns-else-e bound c =
+parse_struct_fields-returns-then-not-e bound c =
     val _ c.eat_ws-q.ensures
     (byte_no _ _ c.looks.ensures c.if-looks.false
     (call 0 (omega arith)
     (go_on c.loop-left.invariant.0
-    (λ ws. items_end _ c.loop-left.left 125 c.loop-left.n _ (λ e. omega arith) c.loop-left-test.true c.parse_type-r.ensures c.count_child-r1.ensures
-    c.one_more-n.ensures ws c.comma_or-e.ensures c.if-e.false))))
+    (λ ws. items_end _ c.loop-left._left 125 c.loop-left.n _ (λ e. omega arith) c.loop-left-test.true c.parse_type-r.ensures c.count_child-r1.ensures
+    c.one_more-n.ensures ws c.comma_or-e.ensures (not-true _ c.if-not-e.true)))))
 
 pub parse_struct_fields-returns : goal.parse_struct_fields-returns
 unfolding struct_fields
@@ -115,7 +116,7 @@ parse_struct_fields-returns bound c =
     (byte_no _ _ c.looks.ensures c.if-looks.false
     (call 0 (omega arith)
     (go_on c.loop-left.invariant.0
-    (λ ws. comma_out c.loop-left.left 1 125 c.loop-left.n _ ws c.loop-left-test.false c.refuse-q1.ensures))))
+    (λ ws. comma_out c.loop-left._left 1 125 c.loop-left.n _ ws c.loop-left-test.false c.refuse-q1.ensures))))
 
 pub parse_type-returns-then-depth-eq0 : goal.parse_type-returns-then-depth-eq0
 parse_type-returns-then-depth-eq0 bound c =
@@ -143,28 +144,28 @@ parse_type_list-returns-then-looks-2 bound c =
     (byte_no _ _ c.looks.ensures c.if-looks.false
     (call 0 (omega arith)
     (go_on c.loop-left.invariant.0
-    (λ ws. dots_here c.loop-left.left 1 1 _ c.loop-left.n _ ws c.loop-left-test.true c.eat_ws-r.ensures c.looks-in-loop-left.ensures c.if-looks-2.true
+    (λ ws. dots_here c.loop-left._left 1 1 _ c.loop-left.n _ ws c.loop-left-test.true c.eat_ws-r.ensures c.looks-in-loop-left.ensures c.if-looks-2.true
     (dots_as c.loop-left.invariant.2 c.three_dots-r1.ensures) c.expect_token-r2.ensures))))
 
 pub parse_type_list-loop-left-preserved : goal.parse_type_list-loop-left-preserved
 unfolding parse_type_list
 parse_type_list-loop-left-preserved bound c = (
   go_on c.loop-left.invariant.0
-      (λ ws. list_more _ c.loop-left.left _ c.loop-left.n _ c.loop-left-test.true c.eat_ws-r.ensures c.looks-in-loop-left.ensures c.if-looks-2.false
-      c.parse_type-r3.ensures c.count_child-r4.ensures c.skip_attrs-r5.ensures c.one_more-n.ensures ws c.comma_or-e.ensures c.if-e.true),
+      (λ ws. list_more _ c.loop-left._left _ c.loop-left.n _ c.loop-left-test.true c.eat_ws-r.ensures c.looks-in-loop-left.ensures c.if-looks-2.false
+      c.parse_type-r3.ensures c.count_child-r4.ensures c.skip_attrs-r5.ensures c.one_more-n.ensures ws c.comma_or-e.ensures (not-false _ c.if-not-e.false)),
   c.parse_type-r3.auto.words ∙ c.loop-left.invariant.1,
   c.loop-left.invariant.2,
 )
 
-pub parse_type_list-returns-else-e : goal.parse_type_list-returns-else-e
+pub parse_type_list-returns-then-not-e : goal.parse_type_list-returns-then-not-e
 unfolding parse_type_list
-parse_type_list-returns-else-e bound c =
+parse_type_list-returns-then-not-e bound c =
     val _ c.eat_ws-q.ensures
     (byte_no _ _ c.looks.ensures c.if-looks.false
     (call 0 (omega arith)
     (go_on c.loop-left.invariant.0
-    (λ ws. list_end _ c.loop-left.left _ c.loop-left.n _ c.loop-left-test.true c.eat_ws-r.ensures c.looks-in-loop-left.ensures c.if-looks-2.false
-    c.parse_type-r3.ensures c.count_child-r4.ensures c.skip_attrs-r5.ensures c.one_more-n.ensures ws c.comma_or-e.ensures c.if-e.false))))
+    (λ ws. list_end _ c.loop-left._left _ c.loop-left.n _ c.loop-left-test.true c.eat_ws-r.ensures c.looks-in-loop-left.ensures c.if-looks-2.false
+    c.parse_type-r3.ensures c.count_child-r4.ensures c.skip_attrs-r5.ensures c.one_more-n.ensures ws c.comma_or-e.ensures (not-true _ c.if-not-e.true)))))
 
 pub parse_type_list-returns : goal.parse_type_list-returns
 unfolding parse_type_list
@@ -173,7 +174,7 @@ parse_type_list-returns bound c =
     (byte_no _ _ c.looks.ensures c.if-looks.false
     (call 0 (omega arith)
     (go_on c.loop-left.invariant.0
-    (λ ws. dots_out c.loop-left.left 1 1 _ c.loop-left.n _ ws c.loop-left-test.false c.refuse-q1.ensures))))
+    (λ ws. dots_out c.loop-left._left 1 1 _ c.loop-left.n _ ws c.loop-left-test.false c.refuse-q1.ensures))))
 
 pub struct_type-returns : goal.struct_type-returns
 unfolding struct_type
@@ -188,7 +189,7 @@ type_suffixes-loop-left-init bound c =
 pub type_suffixes-loop-left-preserved-then-looks-2 : goal.type_suffixes-loop-left-preserved-then-looks-2
 type_suffixes-loop-left-preserved-then-looks-2 bound c = (
   λ t. go_on (c.loop-left.invariant.0 t)
-      (λ ws. suffix_fun _ _ c.loop-left.left c.loop-left-test.true c.eat_ws-r.ensures ws _ _ c.looks.ensures c.if-looks.true c.pass-s.ensures
+      (λ ws. suffix_fun _ _ c.loop-left._left c.loop-left-test.true c.eat_ws-r.ensures ws _ _ c.looks.ensures c.if-looks.true c.pass-s.ensures
       c.parse_type_list-l.ensures c.eat_ws-s2.ensures c.looks-then-looks.ensures c.if-looks-2.true c.pass-t.ensures c.replace-q.ensures),
   c.replace-q.auto.words ∙ c.parse_type_list-l.auto.words ∙ c.loop-left.invariant.1,
 )
@@ -196,13 +197,13 @@ type_suffixes-loop-left-preserved-then-looks-2 bound c = (
 pub type_suffixes-returns-else-looks-2 : goal.type_suffixes-returns-else-looks-2
 type_suffixes-returns-else-looks-2 bound c =
     λ t. go_on (c.loop-left.invariant.0 t)
-    (λ ws. suffix_back _ _ c.loop-left.left c.loop-left-test.true c.eat_ws-r.ensures ws _ _ c.looks.ensures c.if-looks.true c.pass-s.ensures
+    (λ ws. suffix_back _ _ c.loop-left._left c.loop-left-test.true c.eat_ws-r.ensures ws _ _ c.looks.ensures c.if-looks.true c.pass-s.ensures
     c.parse_type_list-l.ensures c.eat_ws-s2.ensures c.looks-then-looks.ensures c.if-looks-2.false c.back_to.ensures)
 
 pub type_suffixes-loop-left-preserved : goal.type_suffixes-loop-left-preserved
 type_suffixes-loop-left-preserved bound c = (
   λ t. go_on (c.loop-left.invariant.0 t)
-      (λ ws. suffix_star _ _ c.loop-left.left c.loop-left-test.true c.eat_ws-r.ensures ws c.looks.ensures c.if-looks.false
+      (λ ws. suffix_star _ _ c.loop-left._left c.loop-left-test.true c.eat_ws-r.ensures ws c.looks.ensures c.if-looks.false
       c.opt_addrspace-s.ensures c.looks-else-looks.ensures c.if-looks-3.true c.pass-t-then-looks-3.ensures c.replace-q-then-looks-3.ensures),
   c.replace-q-then-looks-3.auto.words ∙ c.loop-left.invariant.1,
 )
@@ -210,7 +211,7 @@ type_suffixes-loop-left-preserved bound c = (
 pub type_suffixes-returns-else-looks-3 : goal.type_suffixes-returns-else-looks-3
 type_suffixes-returns-else-looks-3 bound c =
     λ t. go_on (c.loop-left.invariant.0 t)
-    (λ ws. suffix_none _ _ c.loop-left.left c.loop-left-test.true c.eat_ws-r.ensures ws c.looks.ensures c.if-looks.false c.opt_addrspace-s.ensures
+    (λ ws. suffix_none _ _ c.loop-left._left c.loop-left-test.true c.eat_ws-r.ensures ws c.looks.ensures c.if-looks.false c.opt_addrspace-s.ensures
     c.looks-else-looks.ensures c.if-looks-3.false)
 
 pub type_suffixes-returns : goal.type_suffixes-returns

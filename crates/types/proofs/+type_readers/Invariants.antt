@@ -33,21 +33,12 @@ abbrev pub decreases-type_suffixes : goal.decreases-type_suffixes
 decreases-type_suffixes l = 8 * l.depth + 3
 
 abbrev pub invariant-parse_struct_fields-loop-left : goal.invariant-parse_struct_fields-loop-left
-invariant-parse_struct_fields-loop-left l = Leads (fields_of 65536 125 (parse_type l.depth) 0 []) 0 [] (reach (fields_of l.left 125 (parse_type l.depth) l.n) l.text l.initial.q) l.text l.initial.q l.initial.q l.initial.words l.q l.words × (length l.words ≡ length l.initial.words)
-
-abbrev pub decreases-parse_struct_fields-loop-left : goal.decreases-parse_struct_fields-loop-left
-decreases-parse_struct_fields-loop-left l = l.left
+invariant-parse_struct_fields-loop-left l = Leads (fields_of 65536 125 (parse_type l.depth) 0 []) 0 [] (reach (fields_of l._left 125 (parse_type l.depth) l.n) l.text l.initial.q) l.text l.initial.q l.initial.q l.initial.words l.q l.words × (length l.words ≡ length l.initial.words)
 
 abbrev pub invariant-parse_type_list-loop-left : goal.invariant-parse_type_list-loop-left
-invariant-parse_type_list-loop-left l = Leads (types_of 65536 (no_type l.depth) (parse_type l.depth) 1 []) 0 [] (reach (types_of l.left (no_type l.depth) (parse_type l.depth) l.n) l.text l.initial.q) l.text l.initial.q l.initial.q l.initial.words l.q l.words ×
+invariant-parse_type_list-loop-left l = Leads (types_of 65536 (no_type l.depth) (parse_type l.depth) 1 []) 0 [] (reach (types_of l._left (no_type l.depth) (parse_type l.depth) l.n) l.text l.initial.q) l.text l.initial.q l.initial.q l.initial.words l.q l.words ×
     (length l.words ≡ length l.initial.words) × (l.bad ≡ no_type l.depth)
 
-abbrev pub decreases-parse_type_list-loop-left : goal.decreases-parse_type_list-loop-left
-decreases-parse_type_list-loop-left l = l.left
-
 abbrev pub invariant-type_suffixes-loop-left : goal.invariant-type_suffixes-loop-left
-invariant-type_suffixes-loop-left l = ((t : List ℕ) → Leads (suffixes 16777217 (no_type l.depth) (parse_type l.depth) t) 0 t (reach (suffixes l.left (no_type l.depth) (parse_type l.depth)) l.text l.p0) l.text l.p0 l.initial.q l.initial.words l.q l.words) ×
+invariant-type_suffixes-loop-left l = ((t : List ℕ) → Leads (suffixes 16777217 (no_type l.depth) (parse_type l.depth) t) 0 t (reach (suffixes l._left (no_type l.depth) (parse_type l.depth)) l.text l.p0) l.text l.p0 l.initial.q l.initial.words l.q l.words) ×
     (length l.words ≡ length l.initial.words)
-
-abbrev pub decreases-type_suffixes-loop-left : goal.decreases-type_suffixes-loop-left
-decreases-type_suffixes-loop-left l = l.left

@@ -5,7 +5,4 @@ use Rattle.lexer.specs.Reads.{Comes}
 use Rattle.value_leaves.proofs.parse_gep_flags.Given as goal
 
 abbrev pub invariant-loop-left : goal.invariant-loop-left
-invariant-loop-left l = Comes (parse_gep_flags turns 0) (parse_gep_flags l.left l.v) l.text l.initial.q l.q
-
-abbrev pub decreases-loop-left : goal.decreases-loop-left
-decreases-loop-left l = l.left
+invariant-loop-left l = Comes (parse_gep_flags turns 0) (parse_gep_flags l._left l.v) l.text l.initial.q l.q

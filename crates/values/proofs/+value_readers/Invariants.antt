@@ -41,13 +41,7 @@ abbrev pub decreases-parse_value : goal.decreases-parse_value
 decreases-parse_value l = 8 * l.depth
 
 abbrev pub invariant-gep_indices-loop-left : goal.invariant-gep_indices-loop-left
-invariant-gep_indices-loop-left l = Leads (indices_of l.depth 65536 3 []) 0 [] (reach (indices_of l.depth l.left l.n) l.text l.initial.q) l.text l.initial.q l.initial.q l.initial.words l.q l.words × (length l.words ≡ length l.initial.words)
-
-abbrev pub decreases-gep_indices-loop-left : goal.decreases-gep_indices-loop-left
-decreases-gep_indices-loop-left l = l.left
+invariant-gep_indices-loop-left l = Leads (indices_of l.depth 65536 3 []) 0 [] (reach (indices_of l.depth l._left l.n) l.text l.initial.q) l.text l.initial.q l.initial.q l.initial.words l.q l.words × (length l.words ≡ length l.initial.words)
 
 abbrev pub invariant-pair_list-loop-left : goal.invariant-pair_list-loop-left
-invariant-pair_list-loop-left l = Leads (pairs_of l.depth 65536 l.end 0 []) 0 [] (reach (pairs_of l.depth l.left l.end l.n) l.text l.initial.q) l.text l.initial.q l.initial.q l.initial.words l.q l.words × (length l.words ≡ length l.initial.words)
-
-abbrev pub decreases-pair_list-loop-left : goal.decreases-pair_list-loop-left
-decreases-pair_list-loop-left l = l.left
+invariant-pair_list-loop-left l = Leads (pairs_of l.depth 65536 l.end 0 []) 0 [] (reach (pairs_of l.depth l._left l.end l.n) l.text l.initial.q) l.text l.initial.q l.initial.q l.initial.words l.q l.words × (length l.words ≡ length l.initial.words)

@@ -9,7 +9,4 @@ use mathlib.Core.Path.{◌≡◌}
 use Rattle.inst_terminators.proofs.switch.switch_ints.Given as goal
 
 abbrev pub invariant-loop-left : goal.invariant-loop-left
-invariant-loop-left l = Leads (switch_cases 65536 3 [] []) 0 [] (kept (λ labels ints. switch_cases l.left l.n ints labels) length l.text l.initial.q) l.text l.initial.q l.initial.q l.initial.words l.q l.words × (length l.words ≡ length l.initial.words)
-
-abbrev pub decreases-loop-left : goal.decreases-loop-left
-decreases-loop-left l = l.left
+invariant-loop-left l = Leads (switch_cases 65536 3 [] []) 0 [] (kept (λ labels ints. switch_cases l._left l.n ints labels) length l.text l.initial.q) l.text l.initial.q l.initial.q l.initial.words l.q l.words × (length l.words ≡ length l.initial.words)

@@ -12,10 +12,10 @@ put_entry-requires c =
       entry_words_in_bounds = omega (arith, c.loop-k.invariant.long);
       pos_lt_half_limit = (
         omega
-            (arith, place_ends c.args.directory.now c.args.spot.number c.args.n c.args.spot.pos c.args.spot.word c.requires.entry_words_in_bounds c.loop-k.k c.loop-k.pos c.loop-k.word c.loop-k.directory c.loop-k.invariant c.loop-k-test.true),
+            (arith, place_ends c.args.directory.now c.args.spot.number c.args.n c.args.spot.pos c.args.spot.word c.requires.entry_words_in_bounds c.loop-k.k c.loop-k.pos c.loop-k.word c.loop-k.directory c.loop-k.invariant (omega arith)),
         omega arith,
         omega
-            (arith, first_ends c.args.directory.now c.args.spot.number c.args.n c.args.spot.pos c.args.spot.word c.requires.entry_words_in_bounds c.loop-k.k c.loop-k.pos c.loop-k.word c.loop-k.directory c.loop-k.invariant c.loop-k-test.true),
+            (arith, first_ends c.args.directory.now c.args.spot.number c.args.n c.args.spot.pos c.args.spot.word c.requires.entry_words_in_bounds c.loop-k.k c.loop-k.pos c.loop-k.word c.loop-k.directory c.loop-k.invariant (omega arith)),
         omega arith,
       );
     }
@@ -23,16 +23,18 @@ put_entry-requires c =
 pub overflow_add-pos : goal.overflow_add-pos
 overflow_add-pos c =
     omega
-    (arith, place_ends c.args.directory.now c.args.spot.number c.args.n c.args.spot.pos c.args.spot.word c.requires.entry_words_in_bounds c.loop-k.k c.loop-k.pos c.loop-k.word c.loop-k.directory c.loop-k.invariant c.loop-k-test.true)
+    (arith, place_ends c.args.directory.now c.args.spot.number c.args.n c.args.spot.pos c.args.spot.word c.requires.entry_words_in_bounds c.loop-k.k c.loop-k.pos c.loop-k.word c.loop-k.directory c.loop-k.invariant (omega arith))
 
 pub overflow_add-word : goal.overflow_add-word
 overflow_add-word c =
     omega
-    (arith, first_ends c.args.directory.now c.args.spot.number c.args.n c.args.spot.pos c.args.spot.word c.requires.entry_words_in_bounds c.loop-k.k c.loop-k.pos c.loop-k.word c.loop-k.directory c.loop-k.invariant c.loop-k-test.true)
+    (arith, first_ends c.args.directory.now c.args.spot.number c.args.n c.args.spot.pos c.args.spot.word c.requires.entry_words_in_bounds c.loop-k.k c.loop-k.pos c.loop-k.word c.loop-k.directory c.loop-k.invariant (omega arith))
 
 pub loop-k-preserved : goal.loop-k-preserved
 loop-k-preserved c =
-    renumber_next c.args.directory.now c.args.spot.number c.args.n c.args.spot.pos c.args.spot.word c.requires.entry_words_in_bounds c.loop-k.k c.loop-k.pos c.loop-k.word c.loop-k.directory c.loop-k.invariant c.loop-k-test.true c.put_entry.new.directory c.put_entry.ensures
+    rw (c.entry-old.ensures.bytes, c.entry-old.ensures.words)
+    (renumber_next c.args.directory.now c.args.spot.number c.args.n c.args.spot.pos c.args.spot.word c.requires.entry_words_in_bounds c.loop-k.k c.loop-k.pos c.loop-k.word c.loop-k.directory c.loop-k.invariant (omega arith) c.put_entry.new.directory
+    (rw (c.entry-old.ensures.bytes, c.entry-old.ensures.words, c.entry-old.ensures.counter) at c.put_entry.ensures))
 
 pub shape_of-directory : goal.shape_of-directory
 shape_of-directory c = c.loop-k.invariant.long
