@@ -13,7 +13,13 @@ ghost use Rattle.lexer.specs.Reads.{Leads, Reads, Gives, made, same};
 ghost use Rattle.value_leaves.specs.Leaf.{Tried, key_values, Op, FlagStep};
 
 use lexer::Parsed;
-use number_nodes::Hit;
+
+// Whether it was there, and where the reader is.
+#[derive(Clone, Copy)]
+pub struct Hit {
+    pub p: Parsed,
+    pub hit: bool,
+}
 
 // An operator's rank, where one stands.
 #[derive(Clone, Copy)]
@@ -213,9 +219,7 @@ fn any_leaf(text: &[u8], words: &mut [u64], p: Parsed) -> Hit
         let r = type_leaves::name_node(text, words, q, records::K_GLOBAL);
         return Hit { p: r, hit: true };
     }
-    let n = number_nodes::numeric(text, words, p);
-    let q = n.p;
-    if n.hit {
+    if let Some(q) = number_nodes::numeric(text, words, p) {
         return Hit { p: q, hit: true };
     }
     let k = key_value(text, words, p);

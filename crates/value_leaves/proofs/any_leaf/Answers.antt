@@ -22,12 +22,12 @@ returns-then-looks-2 c =
       no = λ h g r. true_false (sym h);
     }
 
-pub returns-then-n : goal.returns-then-n
+pub returns-in-Some : goal.returns-in-Some
 unfolding leaf_values key_values
-returns-then-n c =
+returns-in-Some c =
     record {
       yes = λ h g. byte_no _ _ c.looks.ensures c.if-looks.false
-          (byte_no _ _ c.looks-2.ensures c.if-looks-2.false (c.numeric-n.ensures.yes c.if-n.true _));
+          (byte_no _ _ c.looks-2.ensures c.if-looks-2.false (c.in-Some.ensures _));
       no = λ h g r. true_false (sym h);
     }
 
@@ -37,7 +37,7 @@ returns-then-k c =
     record {
       yes = λ h g. byte_no _ _ c.looks.ensures c.if-looks.false
           (byte_no _ _ c.looks-2.ensures c.if-looks-2.false
-          (c.numeric-n.ensures.no c.if-n.false _ (c.key_value-k.ensures.yes c.if-k.true _)));
+          (c.in_default.ensures.on _ (c.key_value-k.ensures.yes c.if-k.true _)));
       no = λ h g r. true_false (sym h);
     }
 
@@ -47,7 +47,7 @@ returns-then-word c =
     record {
       yes = λ h g. byte_no _ _ c.looks.ensures c.if-looks.false
           (byte_no _ _ c.looks-2.ensures c.if-looks-2.false
-          (c.numeric-n.ensures.no c.if-n.false _
+          (c.in_default.ensures.on _
           (c.key_value-k.ensures.no c.if-k.false _
           (word_at_yes _ _ c.word.ensures c.if-word.true
           (c.cstring_value-r.ensures (sym c.word.ensures ∙ c.if-word.true))))));
@@ -60,7 +60,7 @@ returns-then-starts c =
     record {
       yes = λ h g. byte_no _ _ c.looks.ensures c.if-looks.false
           (byte_no _ _ c.looks-2.ensures c.if-looks-2.false
-          (c.numeric-n.ensures.no c.if-n.false _
+          (c.in_default.ensures.on _
           (c.key_value-k.ensures.no c.if-k.false _
           (word_at_no _ _ c.word.ensures c.if-word.false
           (prefix_yes _ _ c.starts.ensures c.if-starts.true c.pass_word-t.ensures (call 0 (omega arith) c.f0x_value-r.ensures))))));
@@ -74,7 +74,7 @@ returns c =
       yes = λ h g. true_false h;
       no = λ h g r. byte_no _ _ c.looks.ensures c.if-looks.false
           (byte_no _ _ c.looks-2.ensures c.if-looks-2.false
-          (c.numeric-n.ensures.no c.if-n.false _
+          (c.in_default.ensures.on _
           (c.key_value-k.ensures.no c.if-k.false _
           (word_at_no _ _ c.word.ensures c.if-word.false
           (prefix_no _ _ c.starts.ensures c.if-starts.false r)))));
