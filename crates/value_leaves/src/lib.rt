@@ -56,10 +56,7 @@ pub fn match_op(text: &[u8], p: Parsed, table: &[&[u8]]) -> Oper
             rank: Some(k.r as u8),
         };
     }
-    Oper {
-        p: k.p,
-        rank: None,
-    }
+    Oper { p: k.p, rank: None }
 }
 
 // Where the reader is behind one flag, or behind them all; 1 where `inbounds` was among them.
