@@ -77,7 +77,7 @@ copied_stands (suc n) from t l words h k s e = go (copied_stands n from t l word
         (subst (λ (z : List ℕ). Stands ((l ++ take n t) ++ (y ∷ [])) z) (ap (λ (z : ℕ). set v z y) o ∙ word ih (ltb (from + n) (length words)) refl) (stands-more (l ++ take n t) v y ih))
 
 -- ---- a part that is held and written again
-ok_same : (c d : Cursor) → Ok c ≡ Ok d → c ≡ d
+ok_same : (c d : Cursor) → ◌≡◌ {A = Parsed} (Ok c) (Ok d) → c ≡ d
 ok_same c d e = cc
 
 pub again_is : {a b p : Parsed} {text t w w' : List ℕ} (x y c : Cursor) (n m : ℕ) → p ≡ Ok c → a ≡ Ok x → b ≡ Ok y → n ≡ y.w - x.w → (x.w ≤ c.w → w' ≡ copied n x.w c.w w) → (c.w + n < 4294967296 → m ≡ c.w + n) → Held t a b p w

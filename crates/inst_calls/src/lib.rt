@@ -74,14 +74,7 @@ fn parse_arg_list(text: &[u8], words: &mut [u64], p: Parsed, n: u16) -> Listed
 }
 
 // Behind the types: callee, arguments, attributes, trailing part; the node was begun at p0.
-fn call_rest(
-    text: &[u8],
-    words: &mut [u64],
-    p0: Parsed,
-    p: Parsed,
-    d: u8,
-    n: u16,
-) -> Parsed
+fn call_rest(text: &[u8], words: &mut [u64], p0: Parsed, p: Parsed, d: u8, n: u16) -> Parsed
     ensures { (dest : ℕ) (types : List ℕ) → Leads (call_rest dest d n types) 0 (0 ∷ dest ∷ types) (made same text.now p0) text.now p0 p words.old result words.new }
 {
     let q = values::parse_value(text, words, p, records::DEPTH_LIMIT);
@@ -187,12 +180,7 @@ fn call_node(text: &[u8], words: &mut [u64], p: Parsed, dest: u64) -> Called
 }
 
 // `call T V(..)` with a destination, behind the word.
-pub fn parse_call(
-    text: &[u8],
-    words: &mut [u64],
-    p: Parsed,
-    dest: u64,
-) -> Parsed
+pub fn parse_call(text: &[u8], words: &mut [u64], p: Parsed, dest: u64) -> Parsed
     ensures { Leads (parse_call dest) 3 [] (richly text.now (made same text.now p)) text.now p p words.old result words.new }
 {
     let r = call_node(text, words, p, dest);
@@ -200,12 +188,7 @@ pub fn parse_call(
 }
 
 // `tail call` and its like, behind the first word.
-pub fn parse_tail_call(
-    text: &[u8],
-    words: &mut [u64],
-    p: Parsed,
-    dest: u64,
-) -> Parsed
+pub fn parse_tail_call(text: &[u8], words: &mut [u64], p: Parsed, dest: u64) -> Parsed
     ensures { Leads (parse_tail_call dest) 3 [] (richly text.now (made same text.now p)) text.now p p words.old result words.new }
 {
     let q = lexer::expect_keyword(text, p, b"call");
@@ -213,12 +196,7 @@ pub fn parse_tail_call(
 }
 
 // `call T V(..)` without a destination, behind the word, where the counter is c: M-106, one that is not void takes the next number.
-pub fn parse_plain_call(
-    text: &[u8],
-    words: &mut [u64],
-    p: Parsed,
-    c: u64,
-) -> Counter
+pub fn parse_plain_call(text: &[u8], words: &mut [u64], p: Parsed, c: u64) -> Counter
     ensures { Leads (parse_plain_call c) 3 [] (richly text.now (made (counted result.c) text.now p)) text.now p p words.old result.p words.new }
 {
     let r = call_node(text, words, p, 0);
@@ -231,12 +209,7 @@ pub fn parse_plain_call(
 }
 
 // `tail call` and its like without a destination, behind the first word.
-pub fn parse_plain_tail_call(
-    text: &[u8],
-    words: &mut [u64],
-    p: Parsed,
-    c: u64,
-) -> Counter
+pub fn parse_plain_tail_call(text: &[u8], words: &mut [u64], p: Parsed, c: u64) -> Counter
     ensures { Leads (parse_plain_tail_call c) 3 [] (richly text.now (made (counted result.c) text.now p)) text.now p p words.old result.p words.new }
 {
     let q = lexer::expect_keyword(text, p, b"call");

@@ -91,15 +91,7 @@ pub fn parse_trailing(text: &[u8], p: Parsed) -> Trail
 }
 
 // The end of an instruction that was begun at p0: what trails is passed, the header written.
-pub fn end(
-    text: &[u8],
-    words: &mut [u64],
-    p0: Parsed,
-    p: Parsed,
-    kind: u8,
-    d: u8,
-    n: u16,
-) -> Parsed
+pub fn end(text: &[u8], words: &mut [u64], p0: Parsed, p: Parsed, kind: u8, d: u8, n: u16) -> Parsed
     ensures { (body : List ℕ) → Leads (ending kind d n body) 0 (0 ∷ body) (made same text.now p0) text.now p0 p words.old result words.new }
 {
     let t = parse_trailing(text, p);

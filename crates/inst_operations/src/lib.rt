@@ -3,16 +3,15 @@
 // operands; then the header.
 #![tactic(auto)]
 
-ghost use Rattle.std.specs.Prelude.{◌≡◌, [], ◌∷◌, ℕ};
+ghost use Rattle.std.specs.Prelude.{◌≡◌, [], ◌∷◌, ℕ, ◌≤◌, length};
 ghost use Rattle.grammar.specs.Instructions.{two_operands, binary, unary, parse_bin, parse_fbin, parse_fneg, parse_icmp, parse_fcmp, parse_select, parse_freeze, icmp_preds, fcmp_preds, predicate, parse_conv, phi_items, parse_phi};
 ghost use Rattle.lexer.specs.Reads.{Leads, Reads, made, same, Gives};
 ghost use Rattle.program.specs.Bytes.{bytes};
 ghost use Rattle.grammar.specs.Lexer.{skip_keyword};
-ghost use Rattle.lexer.specs.Step.{rank_p, ranked_p};
+ghost use Rattle.lexer.specs.Table.{words_of};
 ghost use Rattle.grammar.specs.Types.{listed};
 
 use lexer::Parsed;
-use lexer_keywords::Ranked;
 use types::Listed;
 
 // T V, V

@@ -19,15 +19,7 @@ pub fn parse_ret(text: &[u8], words: &mut [u64], p: Parsed) -> Parsed
     let q1 = lexer::eat_ws(text, q);
     if lexer::word(text, q1, b"void") {
         let q2 = lexer::pass_word(text, q1, b"void");
-        return inst_operands::end(
-            text,
-            words,
-            p,
-            q2,
-            records::K_RET,
-            records::D_NONE,
-            0,
-        );
+        return inst_operands::end(text, words, p, q2, records::K_RET, records::D_NONE, 0);
     }
     let q3 = values::parse_typed_val(text, words, q1, records::DEPTH_LIMIT);
     inst_operands::end(text, words, p, q3, records::K_RET, D_VALUE, 2)
@@ -44,15 +36,7 @@ pub fn parse_br(text: &[u8], words: &mut [u64], p: Parsed) -> Parsed
         let l = lexer_names::parse_local_name(text, q2);
         let q3 = l.p;
         let q4 = inst_operands::label_node(words, q3, l.v);
-        return inst_operands::end(
-            text,
-            words,
-            p,
-            q4,
-            records::K_BR,
-            records::D_NONE,
-            1,
-        );
+        return inst_operands::end(text, words, p, q4, records::K_BR, records::D_NONE, 1);
     }
     let q5 = inst_operands::parse_operand(text, words, q1);
     let a = inst_operands::target(text, q5);

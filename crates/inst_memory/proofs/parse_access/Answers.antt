@@ -40,7 +40,7 @@ returns-in-None c =
 
 pub shape_of-words-in-Some : goal.shape_of-words-in-Some
 shape_of-words-in-Some c =
-    c.close-2.auto.words ∙ c.patch-q10.auto.words ∙ c.access_operands-q7.auto.words ∙ c.push-q6.auto.words ∙ c.begin-q.auto.words
+    c.close-in-Some.auto.words ∙ c.patch-q10.auto.words ∙ c.access_operands-q7.auto.words ∙ c.push-q6.auto.words ∙ c.begin-q.auto.words
 
 pub returns-in-Some : goal.returns-in-Some
 unfolding access
@@ -52,4 +52,4 @@ returns-in-Some c =
     (push_then _ c.push-q6.ensures
     (then _ c.access_operands-q7.ensures
     (λ x. val _ (align_some _ c.in-Some.is c.parse_trailing-t.ensures)
-    (patch_then 2 _ (0 ∷ _ ∷ []) _ _ refl c.patch-q10.ensures (close_is _ _ _ _ c.close-2.ensures))))))))
+    (patch_then 2 _ (0 ∷ _ ∷ []) _ _ refl c.patch-q10.ensures (close_is _ _ _ _ c.close-in-Some.ensures))))))))

@@ -8,9 +8,6 @@ use Rattle.inst_operations.proofs.phi_items.Goals as goal
 pub loop-left-init : goal.loop-left-init
 loop-left-init c = (stay (phi_items 65536 1), refl)
 
-pub overflow_sub-left : goal.overflow_sub-left
-overflow_sub-left c = omega (arith, c.loop-left-test.true)
-
 pub loop-left-smaller : goal.loop-left-smaller
 loop-left-smaller c = omega (arith, c.loop-left-test.true)
 
