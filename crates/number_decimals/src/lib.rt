@@ -96,7 +96,7 @@ pub struct Significand {
     pub n: u64,
 }
 
-// The parts by d, with so many bits behind the point that the quotient has 53.
+// The parts by d, with so many bits behind the point that the quotient has 53. A `while`: how many turns there are is what is looked for.
 fn scaled(start: Parts, d: u64) -> Significand
     requires { (0 < start.q * d + start.rest) × (start.q < 2 ^ 53) × (start.rest < d) × (d ≤ 2 ^ 52) }
     ensures { Scaled (start.q * d + start.rest) d result }
@@ -132,7 +132,7 @@ fn nearest_up(m: u64, k: usize) -> u64
     (1126 + k as u64 - s.n) * UNIT64 + s.parts.rounded(UNIT64)
 }
 
-// The binary64 nearest m divided by ten to the k.
+// The binary64 nearest m divided by ten to the k. Beside `nearest_up` it has another start, divisor and bias; what both share is `scaled` and `rounded`.
 fn nearest_down(m: u64, k: usize) -> u64
     requires { (0 < m) × (m < 10 ^ 15) × (k < 23) }
     ensures { (result ≡ nearest m (10 ^ k)) × (result < 2 ^ 63) }

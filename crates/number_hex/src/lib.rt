@@ -75,7 +75,7 @@ pub fn parse_hex_float(text: &[u8], p: Parsed) -> Num
     bits_of(hex_literal(x.h), x.p)
 }
 
-// The bits of a float or a widened one, behind `f0x`.
+// The bits of a float or a widened one, behind `f0x`. It shares all but the literal's rule with `parse_hex_float`; a closure for that is no plainer.
 pub fn parse_f0x(text: &[u8], p: Parsed) -> Num
     ensures { Gives parse_f0x result.v text.now p result.p }
 {

@@ -9,7 +9,7 @@ pub const TENFOLD_LIMIT: u64 = 1152921504606846976;
 // The lowest signed number of 128 bits without its sign, 2^127.
 const LOWEST: u128 = 170141183460469231731687303715884105728;
 
-// A digit more.
+// A digit more. One line, as `number_bits::shift` at 64 bits: std has no trait over the checked steps of both widths.
 pub fn push(a: Option<u128>, d: u8) -> Option<u128>
     ensures { result ≡ pushed a d }
 {

@@ -142,7 +142,8 @@ pub fn take(s: Fold, phase: Phase, b: u8, d: u8) -> Fold
     }
 }
 
-// The literal, or the number of a question, here and below. "One with `.`, `e` or `E` is the binary64 nearest its value"; "a leading `-` sets its sign bit, at zero too".
+// The literal, or the number of a question, here and below. "One with `.`, `e` or `E` is the binary64 nearest its value"; "a leading `-` sets its
+// sign bit, at zero too".
 fn float(s: Fold) -> Result<Literal, u64>
     ensures { result ≡ float_literal s.neg (float_in s.mantissa s.behind s.power s.down) }
 {
@@ -184,13 +185,8 @@ pub fn literal_of(s: Fold) -> Result<Literal, u64>
     ensures { result ≡ literal_in s }
 {
     match s.phase {
-        Phase::Start => whole_literal(s),
-        Phase::Front => whole_literal(s),
-        Phase::Whole => whole_literal(s),
-        Phase::Point => decimal(s),
-        Phase::Behind => decimal(s),
-        Phase::Letter => Err(records::Q_LITERAL),
-        Phase::Sign => Err(records::Q_LITERAL),
-        Phase::Power => decimal(s),
+        Phase::Start | Phase::Front | Phase::Whole => whole_literal(s),
+        Phase::Point | Phase::Behind | Phase::Power => decimal(s),
+        Phase::Letter | Phase::Sign => Err(records::Q_LITERAL),
     }
 }
