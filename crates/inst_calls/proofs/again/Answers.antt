@@ -2,7 +2,7 @@
 -- is asked.
 use Rattle.inst_calls.proofs.CopyLaws.{again_is, again_not}
 use Rattle.lexer.proofs.Laws.{no_ok}
-use mathlib.Core.Path.{sym, ◌∙◌}
+use mathlib.Core.Path.{refl, sym, ◌∙◌}
 use native.Mathlib.Omega.{arith}
 use Rattle.inst_calls.proofs.again.Goals as goal
 
@@ -12,10 +12,10 @@ returns-in-Ok-Ok c =
 
 pub returns-in_default : goal.returns-in_default
 returns-in_default c =
-    λ text t H. again_not (sym c.in_ok-c.was)
+    λ text t H. again_not refl
     (λ d i. no_ok (H.there d i).last _ _ (sym (H.there d i).to ∙ c.in_default.is-1))
 
 pub returns-in_default-2 : goal.returns-in_default-2
 returns-in_default-2 c =
-    λ text t H. again_not (sym c.in_ok-c.was)
+    λ text t H. again_not refl
     (λ d i. no_ok (H.there d i).first _ _ (sym (H.there d i).from ∙ c.in_default.is-0))
