@@ -19,31 +19,18 @@ pub fn write(
     requires fit { Fit newer.now (length words.old) (length directory.old) front.number front.pos front.word front.counter behind.number behind.word }
     ensures { Wrote newer.now front.number front.pos front.word front.counter behind.number behind.word words.old directory.old words.new directory.new }
 {
-    let last = behind.number;
     let to = behind.word;
-    let mut number = front.number;
-    let mut pos = front.pos;
-    let mut word = front.word;
-    let mut counter = front.counter;
-    while number < last {
-        let spot = Spot {
-            number,
-            pos,
-            word,
-            counter,
-        };
+    let mut spot = front;
+    while spot.number < behind.number {
         match piece_in(newer, words, spot, to) {
-            Piece::Refused(_, _) => return,
-            Piece::Tail(bytes) => {
+            Err(_) => return,
+            Ok(Piece::Tail(bytes)) => {
                 put_entry(directory, spot, Size { bytes, words: 0 });
                 return;
             }
-            Piece::Read(bytes, n, counter_behind) => {
-                put_entry(directory, spot, Size { bytes, words: n });
-                number += 1;
-                pos += bytes;
-                word += n;
-                counter = counter_behind;
+            Ok(Piece::Read(size, counter)) => {
+                put_entry(directory, spot, size);
+                spot = spot.behind(size, counter);
             }
         }
     }
