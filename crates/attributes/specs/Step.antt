@@ -5,7 +5,7 @@ use Rattle.program.specs.Bytes.{bytes, byte}
 use Rattle.program.specs.Prog.{Prog, ret, scan}
 use Rattle.grammar.specs.Attributes.{group_step, skip_attrs_in}
 use Rattle.lexer.specs.Reads.{Gives, Comes}
-use Rattle.lexer.specs.Parsed.{Parsed, Ok, Refused}
+use Rattle.lexer.specs.Parsed.{Parsed, Ok, Err}
 
 -- the digits behind `#`
 unfoldable pub group_digits : Prog (Unit {0})
@@ -28,7 +28,7 @@ letters (x ∷ y ∷ s) = is_small x && is_small y
 
 abbrev pub letters_p : List ℕ → Parsed → Bool
 letters_p text (Ok c) = letters (drop c.at text)
-letters_p text (Refused e q) = false
+letters_p text (Err r) = false
 
 -- words that often stand where an attribute might, and are none
 unfoldable pub no_attrs : List (List ℕ)

@@ -295,7 +295,27 @@ pub struct Passed {
 fn letters_at(text: &[u8], at: usize) -> bool
     ensures { result ≡ letters (drop at text.now) }
 {
-    matches!(text.get(at..), Some([b'a'..=b'z', b'a'..=b'z', ..]))
+    if text.len() <= at {
+        return false;
+    }
+    if text.len() - at <= 1 {
+        return false;
+    }
+    let x = text[at];
+    let y = text[at + 1];
+    if x < b'a' {
+        return false;
+    }
+    if b'z' < x {
+        return false;
+    }
+    if y < b'a' {
+        return false;
+    }
+    if b'z' < y {
+        return false;
+    }
+    true
 }
 
 // The same at the cursor.

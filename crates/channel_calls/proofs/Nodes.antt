@@ -24,18 +24,18 @@ pub callee_small : (d : ℕ) → callee_place d ≤ 2
 unfolding callee_place
 callee_small d = omega arith
 
--- child number n, l steps before it
-pub child_next : (n l : ℕ) (node : List ℕ) (at : ℕ) → 0 < l → l ≤ n → child_at (n - l) node ≡ some at → child_at (n - (l - 1)) node ≡ next_of node at (length node)
+-- the child behind another
+pub child_next : (i : ℕ) (node : List ℕ) (at : ℕ) → child_at i node ≡ some at → child_at (i + 1) node ≡ next_of node at (length node)
 unfolding child_at
-child_next n l node at h k e = let z : n - (l - 1) ≡ suc (n - l) = omega arith in rw (z, child_at, e)
+child_next i node at e = let z : i + 1 ≡ suc i = omega arith in rw (z, child_at, e)
 
 none_on : (m j : ℕ) (node : List ℕ) → child_at j node ≡ none → child_at (m + j) node ≡ none
 unfolding child_at
 none_on zero j node e = let z : zero + j ≡ j = omega arith in rw z e
 none_on (suc m) j node e = let z : suc m + j ≡ suc (m + j) = omega arith in rw (z, child_at, none_on m j node e)
 
-pub child_none : (n l : ℕ) (node : List ℕ) → l ≤ n → child_at (n - l) node ≡ none → child_at n node ≡ none
-child_none n l node h e = let z : l + (n - l) ≡ n = omega arith in rw z at (none_on l (n - l) node e)
+pub child_none : (i n : ℕ) (node : List ℕ) → i ≤ n → child_at i node ≡ none → child_at n node ≡ none
+child_none i n node h e = let z : n - i + i ≡ n = omega arith in rw z at (none_on (n - i) i node e)
 
 -- a whole name is that from its start to its end
 pub fire_there : (piece raw : List ℕ) (k w : ℕ) → k ≡ kind Global → raw ≡ text_of piece w → same_word (spelled (raw_word (part raw 0 (length raw)))) (bytes "fire") ≡ is_fire piece k w

@@ -15,17 +15,16 @@ use Rattle.trees.specs.Steps.{kind_in, detail_in, children_in, word_at, child_of
 use Rattle.map_spec.specs.Blocks.{piece_text, first_node, behind_node}
 use Rattle.channel_spec.specs.declared.Fired.TheVariants.{Nothing}
 use Rattle.channel_spec.specs.Fires.{callee_place, child_at, calls_fire_at, constant_at, fire_in, fire_here, fires_from, fires_in, blocks_in, nth}
-use Rattle.channel_calls.specs.declared.Search.{Search}
-use Rattle.channel_calls.specs.declared.Search.TheVariants.{Found, Left}
-use Rattle.channel_calls.specs.Seek.{seek, seek_on, nth_on, seek_append, nth_append}
+use Rattle.std.specs.declared.ops.ControlFlow.TheVariants.{Break, Continue}
+use Rattle.channel_calls.specs.Seek.{Search, seek, seek_on, nth_on, seek_append, nth_append}
 
 -- one node, whose header is h
-pub not_call : (k : ℕ) (piece node : List ℕ) (h : ℕ) → h ≡ word_at node 0 → (kind_in h ≡ kind Call → ⊥) → Left k ≡ seek k (fire_here piece node)
+pub not_call : (k : ℕ) (piece node : List ℕ) (h : ℕ) → h ≡ word_at node 0 → (kind_in h ≡ kind Call → ⊥) → Continue k ≡ seek k (fire_here piece node)
 unfolding seek fire_here
 not_call k piece node h e n = rw (fire_here, ← e, ne_eqb (kind_in h) (kind Call) n)
 
 module _ (k : ℕ) (piece node : List ℕ) (h : ℕ) (e : h ≡ word_at node 0) (i : kind_in h ≡ kind Call) where
-  pub not_fire : calls_fire_at piece node (child_at (callee_place (detail_in h)) node) ≡ false → Left k ≡ seek k (fire_here piece node)
+  pub not_fire : calls_fire_at piece node (child_at (callee_place (detail_in h)) node) ≡ false → Continue k ≡ seek k (fire_here piece node)
   unfolding seek fire_here fire_in
   not_fire f = rw (fire_here, ← e, eq-eqb (kind_in h) (kind Call) i, ← e, fire_in, f)
 
@@ -33,11 +32,11 @@ module _ (k : ℕ) (piece node : List ℕ) (h : ℕ) (e : h ≡ word_at node 0) 
   unfolding fire_here fire_in
   here f = rw (fire_here, ← e, eq-eqb (kind_in h) (kind Call) i, ← e, fire_in, f, ← e)
 
-  pub fire_passed : calls_fire_at piece node (child_at (callee_place (detail_in h)) node) ≡ true → 0 < k → Left (k - 1) ≡ seek k (fire_here piece node)
+  pub fire_passed : calls_fire_at piece node (child_at (callee_place (detail_in h)) node) ≡ true → 0 < k → Continue (k - 1) ≡ seek k (fire_here piece node)
   unfolding seek
-  fire_passed f l = let z : k ≡ suc (k - 1) = omega arith in rw (here f, z) (ap Left (omega arith))
+  fire_passed f l = let z : k ≡ suc (k - 1) = omega arith in rw (here f, z) (ap Continue (omega arith))
 
-  pub fire_found : calls_fire_at piece node (child_at (callee_place (detail_in h)) node) ≡ true → k ≤ 0 → Found (constant_at node (child_at (callee_place (detail_in h) + 2) node)) ≡ seek k (fire_here piece node)
+  pub fire_found : calls_fire_at piece node (child_at (callee_place (detail_in h)) node) ≡ true → k ≤ 0 → Break (constant_at node (child_at (callee_place (detail_in h) + 2) node)) ≡ seek k (fire_here piece node)
   unfolding seek
   fire_found f l = let z : k ≡ 0 = omega arith in rw (here f, z)
 
@@ -49,12 +48,12 @@ from_turn k (suc m) piece ws node at s l h e =
     let z : suc m - 1 ≡ m = omega arith in
     rw (z, ← e, h) (seek_append k (fire_here piece (first_node (drop at ws))) (fires_from m piece ws (next_of ws at (length ws))))
 
-pub from_none : (k m : ℕ) (piece ws : List ℕ) → seek k (fires_from m piece ws none) ≡ Left k
+pub from_none : (k m : ℕ) (piece ws : List ℕ) → seek k (fires_from m piece ws none) ≡ Continue k
 unfolding fires_from seek
 from_none k zero piece ws = refl
 from_none k (suc m) piece ws = refl
 
-pub from_done : (k m : ℕ) (piece ws : List ℕ) (o : Option ℕ) → m ≤ 0 → seek k (fires_from m piece ws o) ≡ Left k
+pub from_done : (k m : ℕ) (piece ws : List ℕ) (o : Option ℕ) → m ≤ 0 → seek k (fires_from m piece ws o) ≡ Continue k
 unfolding fires_from seek
 from_done k zero piece ws o h = refl
 from_done k (suc m) piece ws o h = absurd (omega arith)
@@ -64,7 +63,7 @@ pub in_there : (k : ℕ) (piece ws : List ℕ) (first n : ℕ) → child_of ws 0
 unfolding fires_in
 in_there k piece ws first n e f = rw (fires_in, e, f)
 
-pub in_none : (k : ℕ) (piece ws : List ℕ) → child_of ws 0 ≡ none → Left k ≡ seek k (fires_in piece ws)
+pub in_none : (k : ℕ) (piece ws : List ℕ) → child_of ws 0 ≡ none → Continue k ≡ seek k (fires_in piece ws)
 unfolding fires_in
 in_none k piece ws e = sym (rw (fires_in, e) (from_none k (children_in (word_at ws 0)) piece ws))
 

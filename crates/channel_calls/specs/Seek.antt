@@ -3,23 +3,27 @@
 use Rattle.std.specs.Prelude.{◌≡◌, refl, List, [], ◌∷◌, ◌++◌, ℕ, zero, suc}
 use Rattle.channel_spec.specs.declared.Fired.{Fired}
 use Rattle.channel_spec.specs.Fires.{nth}
-use Rattle.channel_calls.specs.declared.Search.{Search}
-use Rattle.channel_calls.specs.declared.Search.TheVariants.{Found, Left}
+use Rattle.std.specs.declared.ops.ControlFlow.{ControlFlow}
+use Rattle.std.specs.declared.ops.ControlFlow.TheVariants.{Break, Continue}
+
+-- the call that is sought, or its number among those behind
+abbrev pub Search : Type 0
+Search = ControlFlow Fired ℕ
 
 -- number k of the calls, or its number among those behind them
 unfoldable pub seek : (k : ℕ) → List Fired → Search
-seek k [] = Left k
-seek zero (f ∷ fs) = Found f
+seek k [] = Continue k
+seek zero (f ∷ fs) = Break f
 seek (suc k) (f ∷ fs) = seek k fs
 
 -- the same, where more calls stand behind those that were looked at
 abbrev pub seek_on : Search → List Fired → Search
-seek_on (Found f) fs = Found f
-seek_on (Left k) fs = seek k fs
+seek_on (Break f) fs = Break f
+seek_on (Continue k) fs = seek k fs
 
 abbrev pub nth_on : Search → List Fired → Fired
-nth_on (Found f) fs = f
-nth_on (Left k) fs = nth k fs
+nth_on (Break f) fs = f
+nth_on (Continue k) fs = nth k fs
 
 pub seek_append : (k : ℕ) (fs gs : List Fired) → seek k (fs ++ gs) ≡ seek_on (seek k fs) gs
 unfolding seek

@@ -5,8 +5,7 @@ use Rattle.program.specs.Choice.{pick}
 use Rattle.channel_spec.specs.declared.Rule.{Rule}
 use Rattle.channel_spec.specs.declared.Fired.{Fired}
 use Rattle.channel_spec.specs.declared.Fired.TheVariants.{Channel, Undecided, Nothing}
-use Rattle.channel_spec.specs.declared.Told.{Told}
-use Rattle.channel_spec.specs.declared.Told.TheVariants.{Answer}
+use Rattle.channel_spec.specs.Told.{Told, Answer}
 use Rattle.channel_spec.specs.Table.{judged, permits}
 use Rattle.channel_spec.specs.Fires.{word_fires, nth}
 

@@ -14,8 +14,7 @@ use Rattle.lexer_names.specs.Names.{is_quoted, raw_word}
 use Rattle.record_steps.specs.Views.{text_of}
 use Rattle.map_spec.specs.Blocks.{piece_text, name_in, first_node, behind_node}
 use Rattle.channel_spec.specs.declared.Rule.{Rule}
-use Rattle.channel_spec.specs.declared.Told.{Told}
-use Rattle.channel_spec.specs.declared.Told.TheVariants.{Answer, Refused}
+use Rattle.channel_spec.specs.Told.{Told, Answer, Refused}
 use Rattle.channel_spec.specs.declared.Fired.{Fired}
 use Rattle.channel_spec.specs.declared.Fired.TheVariants.{Channel, Undecided, Nothing}
 use Rattle.channel_spec.specs.Table.{is_bad, first_that, overlap, first_overlap, covers, covered, gap_from, first_gap, or_else, asked_place, judged, permits}

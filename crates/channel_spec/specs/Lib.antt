@@ -1,3 +1,4 @@
+pub mod Told
 pub mod Table
 pub mod Fires
 pub mod Answers

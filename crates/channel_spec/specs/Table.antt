@@ -6,8 +6,7 @@ use Rattle.program.specs.Class.{inside}
 use Rattle.records.specs.Limits.{class_limit, channel_limit}
 use Rattle.records.specs.Questions.{q_rule, q_overlap, q_gap}
 use Rattle.channel_spec.specs.declared.Rule.{Rule}
-use Rattle.channel_spec.specs.declared.Told.{Told}
-use Rattle.channel_spec.specs.declared.Told.TheVariants.{Refused}
+use Rattle.channel_spec.specs.Told.{Told, Refused}
 
 -- how many classes and channels there are: "class 0 to 3", "channels 0 to 65,535"
 abbrev pub classes : ℕ

@@ -2,6 +2,8 @@
 // A rule, as it is lent: a class, whether it may fire (0 is no, all else yes), and the first and the last channel.
 #![tactic(auto)]
 
+use records::Refusal;
+
 #[repr(C)]
 #[derive(Clone, Copy)]
 pub struct Rule {
@@ -19,12 +21,8 @@ pub enum Fired {
     Nothing,
 }
 
-// What is told: an answer; or the number of the question that refuses the table, and the place.
-#[derive(Clone, Copy)]
-pub enum Told {
-    Answer(u64),
-    Refused(u64, u64),
-}
+// What is told: an answer; or the refusal of the table.
+pub type Told = Result<u64, Refusal>;
 
 // The answers.
 pub const ANSWER_NO: u64 = 0;

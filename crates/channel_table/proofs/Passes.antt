@@ -19,8 +19,7 @@ use Rattle.records.specs.Questions.{q_rule, q_overlap, q_gap}
 use Rattle.channel_spec.specs.declared.Rule.{Rule}
 use Rattle.channel_spec.specs.declared.Fired.{Fired}
 use Rattle.channel_spec.specs.declared.Fired.TheVariants as fired
-use Rattle.channel_spec.specs.declared.Told.{Told}
-use Rattle.channel_spec.specs.declared.Told.TheVariants.{Answer, Refused}
+use Rattle.channel_spec.specs.Told.{Told, Answer, Refused}
 use Rattle.channel_spec.specs.Table.{classes, channels, is_bad, first_that, overlap, first_overlap, covers, covered, gap_from, first_gap, or_else, asked_place, judged, permits}
 use Rattle.channel_spec.specs.Answers.{answer_no, answer_yes, answer_undecided, answer_none, answer_of, ruling}
 use Rattle.channel_table.specs.declared.windows.Window.{Window}

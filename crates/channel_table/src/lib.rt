@@ -10,9 +10,11 @@ pub mod windows; // windows.rt: a window of channels, and what a rule marks in i
 ghost use Rattle.std.specs.Prelude.{◌≡◌, ◌<◌, length, slice_index_or};
 ghost use Rattle.channel_spec.specs.Table.{channels, is_bad, overlap, covers};
 ghost use Rattle.channel_spec.specs.Answers.{ruling};
+ghost use Rattle.channel_spec.specs.Told.{Refused};
 ghost use Rattle.channel_table.specs.Search.{no_rule, covers_call, finds, question_after, found_after, moved, look, pass, done, later, gap_after, answering, behind_windows, behind_window, answered, turned, shown, begin};
 
 use channel_spec::{Fired, Rule, Told};
+use records::Refusal;
 use windows::{CHANNELS, WINDOW, Window};
 
 // What a pass asks of each rule: is it bad; does it share a channel of a window with one behind it; does it overlap the earlier rule, and stands
@@ -52,133 +54,104 @@ pub struct Search {
 const NO_GAP: u64 = 262144;
 
 // 23: the class is above 3, or the first channel above the last.
+#[tactic(auto, unfolding(channel_spec::specs::Table::is_bad))]
 fn is_bad(rule: Rule) -> bool
     ensures { result ≡ is_bad rule }
 {
-    if records::CLASS_LIMIT < rule.account_class {
-        return true;
-    }
-    rule.last < rule.first
+    records::CLASS_LIMIT < rule.account_class || rule.last < rule.first
 }
 
 // 24: do two rules share a channel of one class?
+#[tactic(auto, unfolding(channel_spec::specs::Table::overlap))]
 fn overlap(a: Rule, b: Rule) -> bool
     ensures { result ≡ overlap a b }
 {
-    if a.account_class != b.account_class {
-        return false;
-    }
-    if b.last < a.first {
-        return false;
-    }
-    b.first <= a.last
+    a.account_class == b.account_class && a.first <= b.last && b.first <= a.last
 }
 
 // Does a rule cover this channel of this class?
+#[tactic(auto, unfolding(channel_spec::specs::Table::covers))]
 fn covers(class: u64, channel: u16, rule: Rule) -> bool
     ensures { result ≡ covers class channel rule }
 {
-    if (rule.account_class as u64) != class {
-        return false;
-    }
-    if channel < rule.first {
-        return false;
-    }
-    channel <= rule.last
+    u64::from(rule.account_class) == class && rule.first <= channel && channel <= rule.last
 }
 
 // The channel of a call?
+#[tactic(auto, unfolding(crate::specs::Search::covers_call))]
 fn covers_call(class: u64, fired: Fired, rule: Rule) -> bool
     ensures { result ≡ covers_call class fired rule }
 {
     match fired {
         Fired::Channel(x) => covers(class, x, rule),
-        Fired::Undecided => false,
-        Fired::Nothing => false,
+        Fired::Undecided | Fired::Nothing => false,
     }
 }
 
 // Does the rule that is shown answer the question of the pass with yes?
+#[tactic(auto, unfolding(crate::specs::Search::finds, crate::specs::Search::answers))]
 fn finds(s: Search, rule: Rule) -> bool
     ensures { result ≡ finds s rule }
 {
-    let question = s.question;
-    match question {
+    match s.question {
         Question::Bad => is_bad(rule),
         Question::Shared(window) => windows::meets(window, rule),
-        Question::Later => {
-            if s.at <= s.earlier.number {
-                return false;
-            }
-            overlap(s.earlier.rule, rule)
-        }
-        Question::Covering => {
-            let fired = s.fired;
-            covers_call(s.asked, fired, rule)
-        }
+        Question::Later => s.earlier.number < s.at && overlap(s.earlier.rule, rule),
+        Question::Covering => covers_call(s.asked, s.fired, rule),
         Question::Nothing => false,
     }
 }
 
 // The question once a rule was shown: a window has it marked.
+#[tactic(auto, unfolding(crate::specs::Search::question_after))]
 fn question_after(question: Question, rule: Rule) -> Question
     ensures { result ≡ question_after question rule }
 {
     match question {
-        Question::Bad => question,
         Question::Shared(window) => Question::Shared(windows::marked(window, rule)),
-        Question::Later => question,
-        Question::Covering => question,
-        Question::Nothing => question,
+        Question::Bad | Question::Later | Question::Covering | Question::Nothing => question,
     }
 }
 
 // What is found once a rule was shown: of those found the one with the lowest number is kept.
+#[tactic(auto, unfolding(crate::specs::Search::found_after))]
 fn found_after(s: Search, rule: Rule) -> Found
     ensures { result ≡ found_after s rule }
 {
-    if s.at < s.found.number {
-        if finds(s, rule) {
-            return Found { number: s.at, rule };
-        }
+    if s.at < s.found.number && finds(s, rule) {
+        return Found { number: s.at, rule };
     }
     s.found
 }
 
 // The search with another rule to be shown next, another question, and something else found.
+#[tactic(auto, unfolding(crate::specs::Search::moved))]
 fn moved(s: Search, at: usize, question: Question, found: Found) -> Search
     ensures { result ≡ moved s at question found }
 {
-    let fired = s.fired;
-    let earlier = s.earlier;
-    let told = s.told;
     Search {
         at,
-        count: s.count,
-        asked: s.asked,
-        fired,
         question,
         found,
-        earlier,
-        gap: s.gap,
-        told,
+        ..s
     }
 }
 
 // The search once it has looked at a rule.
+#[tactic(auto, unfolding(crate::specs::Search::look))]
 fn look(s: Search, rule: Rule) -> Search
     ensures { result ≡ look s rule }
 {
-    let question = s.question;
     moved(
         s,
         s.at,
-        question_after(question, rule),
+        question_after(s.question, rule),
         found_after(s, rule),
     )
 }
 
 // No rule.
+#[tactic(auto, unfolding(crate::specs::Search::no_rule))]
 fn no_rule(count: usize) -> Found
     ensures { result ≡ no_rule count }
 {
@@ -194,81 +167,73 @@ fn no_rule(count: usize) -> Found
 }
 
 // The next pass, from the last rule on. What windows found is kept from one to the next.
+#[tactic(auto, unfolding(crate::specs::Search::pass))]
 fn pass(s: Search, question: Question, found: Found) -> Search
     ensures { result ≡ pass s question found }
 {
-    moved(s, lexer::minus(s.count, 1), question, found)
+    moved(s, s.count.saturating_sub(1), question, found)
+}
+
+// The refusal of a table.
+fn refused(question: u64, place: usize) -> Told
+    ensures { result ≡ Refused question place }
+{
+    Err(Refusal { question, place })
 }
 
 // Nothing more is wanted.
+#[tactic(auto, unfolding(crate::specs::Search::done))]
 fn done(s: Search, told: Told) -> Search
     ensures { result ≡ done s told }
 {
-    let fired = s.fired;
-    let question = Question::Nothing;
-    let found = s.found;
-    let earlier = s.earlier;
     Search {
         at: s.count,
-        count: s.count,
-        asked: s.asked,
-        fired,
-        question,
-        found,
-        earlier,
-        gap: s.gap,
+        question: Question::Nothing,
         told,
+        ..s
     }
 }
 
 // An overlap was found: which is the first rule behind it that shares a channel with it?
+#[tactic(auto, unfolding(crate::specs::Search::later))]
 fn later(s: Search) -> Search
     ensures { result ≡ later s }
 {
-    let fired = s.fired;
-    let question = Question::Later;
-    let found = no_rule(s.count);
-    let earlier = s.found;
-    let told = s.told;
     Search {
-        at: lexer::minus(s.count, 1),
-        count: s.count,
-        asked: s.asked,
-        fired,
-        question,
-        found,
-        earlier,
-        gap: s.gap,
-        told,
+        at: s.count.saturating_sub(1),
+        question: Question::Later,
+        found: no_rule(s.count),
+        earlier: s.found,
+        ..s
     }
 }
 
 // The lowest gap, once a window is whole: windows come in the order of the places.
+#[tactic(auto, unfolding(crate::specs::Search::gap_after))]
 fn gap_after(gap: u64, window: Window) -> u64
     ensures { result ≡ gap_after gap window }
 {
     let k = windows::first_clear(window.marks);
-    if gap == NO_GAP {
-        if k < WINDOW {
-            return (window.class as u64) * CHANNELS + (window.from as u64) + k;
-        }
+    if gap == NO_GAP && k < WINDOW {
+        return u64::from(window.class) * CHANNELS + u64::from(window.from) + k;
     }
     gap
 }
 
 // The table stands: what of the call?
+#[tactic(auto, unfolding(crate::specs::Search::answering, crate::specs::Search::answering_to))]
 fn answering(s: Search) -> Search
     ensures { result ≡ answering s }
 {
-    let fired = s.fired;
-    match fired {
+    match s.fired {
         Fired::Channel(_) => pass(s, Question::Covering, no_rule(s.count)),
-        Fired::Undecided => done(s, Told::Answer(channel_spec::ANSWER_UNDECIDED)),
-        Fired::Nothing => done(s, Told::Answer(channel_spec::ANSWER_NONE)),
+        Fired::Undecided => done(s, Ok(channel_spec::ANSWER_UNDECIDED)),
+        Fired::Nothing => done(s, Ok(channel_spec::ANSWER_NONE)),
     }
 }
 
 // All windows are behind: an overlap comes before a gap.
+#[tactic(auto, unfolding(crate::specs::Search::behind_windows))]
 fn behind_windows(s: Search) -> Search
     ensures { result ≡ behind_windows s }
 {
@@ -276,12 +241,13 @@ fn behind_windows(s: Search) -> Search
         return later(s);
     }
     if s.gap != NO_GAP {
-        return done(s, Told::Refused(records::Q_GAP, s.gap));
+        return done(s, refused(records::Q_GAP, s.gap as usize));
     }
     answering(s)
 }
 
 // The next window: the one with the next channel at which a rule begins or has ended; or the first one of the next class.
+#[tactic(auto, unfolding(crate::specs::Search::behind_window, crate::specs::Search::with_gap))]
 fn behind_window(s: Search, window: Window) -> Search
     ensures { result ≡ behind_window s window }
 {
@@ -306,38 +272,37 @@ fn behind_window(s: Search, window: Window) -> Search
 }
 
 // What the rule that covers the channel says.
+#[tactic(auto, unfolding(crate::specs::Search::answered))]
 fn answered(s: Search) -> Search
     ensures { result ≡ answered s }
 {
     if 0 < s.found.rule.allowed {
-        return done(s, Told::Answer(channel_spec::ANSWER_YES));
+        return done(s, Ok(channel_spec::ANSWER_YES));
     }
-    done(s, Told::Answer(channel_spec::ANSWER_NO))
+    done(s, Ok(channel_spec::ANSWER_NO))
 }
 
 // The search once a pass is whole.
+#[tactic(auto, unfolding(crate::specs::Search::turned, crate::specs::Search::turned_at))]
 fn turned(s: Search) -> Search
     ensures { result ≡ turned s }
 {
-    let question = s.question;
-    match question {
+    match s.question {
         Question::Bad => {
             if s.found.number < s.count {
-                return done(s, Told::Refused(records::Q_RULE, s.found.number as u64));
+                return done(s, refused(records::Q_RULE, s.found.number));
             }
             pass(s, Question::Shared(windows::window_at(0, 0)), s.found)
         }
         Question::Shared(window) => behind_window(s, window),
-        Question::Later => done(s, Told::Refused(records::Q_OVERLAP, s.found.number as u64)),
+        Question::Later => done(s, refused(records::Q_OVERLAP, s.found.number)),
         Question::Covering => answered(s),
-        Question::Nothing => {
-            let told = s.told;
-            done(s, told)
-        }
+        Question::Nothing => done(s, s.told),
     }
 }
 
 // The search once the rule that it wants is shown to it.
+#[tactic(auto, unfolding(crate::specs::Search::shown, crate::specs::Search::look, crate::specs::Search::moved))]
 pub fn shown(s: Search, rule: Rule) -> Search
     ensures { result ≡ shown s rule }
 {
@@ -350,25 +315,24 @@ pub fn shown(s: Search, rule: Rule) -> Search
 }
 
 // The search before the first rule. Without a rule the first channel of the first class is a gap.
+#[tactic(auto, unfolding(crate::specs::Search::begin, crate::specs::Search::fresh))]
 pub fn begin(asked: u64, fired: Fired, count: usize) -> Search
     ensures { result ≡ begin asked fired count }
 {
-    let question = Question::Nothing;
     let none = no_rule(count);
-    let told = Told::Refused(records::Q_GAP, 0);
     let s = Search {
         at: count,
         count,
         asked,
         fired,
-        question,
+        question: Question::Nothing,
         found: none,
         earlier: none,
         gap: NO_GAP,
-        told,
+        told: refused(records::Q_GAP, 0),
     };
-    if (records::CLASS_LIMIT as u64) < asked {
-        return done(s, Told::Refused(records::Q_RULE, 0));
+    if u64::from(records::CLASS_LIMIT) < asked {
+        return done(s, refused(records::Q_RULE, 0));
     }
     if count == 0 {
         return s;

@@ -21,6 +21,7 @@ pub struct Window {
 }
 
 // A window without marks.
+#[tactic(auto, unfolding(crate::specs::Windows::window_at))]
 pub fn window_at(class: u8, from: u16) -> Window
     ensures { result ≡ window_at class from }
 {
@@ -42,29 +43,22 @@ fn bits_of(a: u64, b: u64) -> u64
 }
 
 // What a rule marks in the window that begins at a channel.
+#[tactic(auto, unfolding(crate::specs::Windows::marks_of))]
 fn marks_of(rule: Rule, from: u16) -> u64
     ensures { result ≡ marks_of rule from }
 {
-    let first = rule.first;
-    let last = rule.last;
-    if last < first {
+    if rule.last < rule.first || rule.last < from {
         return 0;
     }
-    if last < from {
-        return 0;
-    }
-    let a = lexer::minus(first as usize, from as usize) as u64;
+    let a = u64::from(rule.first.saturating_sub(from));
     if WINDOW <= a {
         return 0;
     }
-    let b = (last - from) as u64;
-    if WINDOW <= b {
-        return bits_of(a, WINDOW - 1);
-    }
-    bits_of(a, b)
+    bits_of(a, u64::from(rule.last - from).min(WINDOW - 1))
 }
 
 // Is a rule one of the window's class?
+#[tactic(auto, unfolding(crate::specs::Windows::is_of_class))]
 fn is_of_class(window: Window, rule: Rule) -> bool
     ensures { result ≡ is_of_class window rule }
 {
@@ -72,38 +66,37 @@ fn is_of_class(window: Window, rule: Rule) -> bool
 }
 
 // Does a rule share a channel of the window with those that are marked in it?
+#[tactic(auto, unfolding(crate::specs::Windows::meets))]
 pub fn meets(window: Window, rule: Rule) -> bool
     ensures { result ≡ meets window rule }
 {
-    if !is_of_class(window, rule) {
-        return false;
-    }
-    window.marks & marks_of(rule, window.from) != 0
+    is_of_class(window, rule) && window.marks & marks_of(rule, window.from) != 0
 }
 
 // The lower of two channels behind the window; the first is one only if it is not before the window's end.
+#[tactic(auto, unfolding(crate::specs::Windows::break_before))]
 fn break_before(from: u16, channel: u64, next: u64) -> u64
     ensures { result ≡ break_before from channel next }
 {
-    if channel < (from as u64) + WINDOW {
+    if channel < u64::from(from) + WINDOW {
         return next;
     }
-    if channel < next { channel } else { next }
+    channel.min(next)
 }
 
 // The window once a rule is marked in it.
+#[tactic(auto, unfolding(crate::specs::Windows::marked))]
 pub fn marked(window: Window, rule: Rule) -> Window
     ensures { result ≡ marked window rule }
 {
     if !is_of_class(window, rule) {
         return window;
     }
-    let next = break_before(window.from, rule.first as u64, window.next);
+    let next = break_before(window.from, u64::from(rule.first), window.next);
     Window {
-        class: window.class,
-        from: window.from,
         marks: window.marks | marks_of(rule, window.from),
-        next: break_before(window.from, (rule.last as u64) + 1, next),
+        next: break_before(window.from, u64::from(rule.last) + 1, next),
+        ..window
     }
 }
 
@@ -111,12 +104,10 @@ pub fn marked(window: Window, rule: Rule) -> Window
 pub fn first_clear(marks: u64) -> u64
     ensures { result ≡ first_clear window_size 0 marks }
 {
-    let mut k = 0;
-    while k < WINDOW {
+    for k in 0..WINDOW {
         if (marks >> k) % 2 == 0 {
             return k;
         }
-        k += 1;
     }
-    k
+    WINDOW
 }

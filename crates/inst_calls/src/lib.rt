@@ -99,48 +99,28 @@ fn copy(words: &mut [u64], from: usize, to: usize, n: usize)
     if to < from {
         return;
     }
-    let room = lexer::minus(words.len(), to);
-    let mut k: usize = 0;
-    while k < n {
+    let room = words.len().saturating_sub(to);
+    for k in 0..n {
         if room <= k {
             return;
         }
-        let x = words[from + k];
-        words[to + k] = x;
-        k += 1;
+        words[to + k] = words[from + k];
     }
-}
-
-// The sum, where it is below 2^32: no text has as many words.
-fn sum(w: usize, n: usize) -> usize
-    ensures { w + n < 4294967296 → result ≡ w + n }
-{
-    if w < records::HALF_LIMIT {
-        if n < records::HALF_LIMIT {
-            return w + n;
-        }
-    }
-    w
 }
 
 // The words between a and b stand once more behind p.
 fn again(words: &mut [u64], a: Parsed, b: Parsed, p: Parsed) -> Parsed
     ensures { (text t : List ℕ) → Held t a b p words.old → Leads (ret t) (length t) [] (made same text p) text p p words.old result words.new }
 {
-    match p {
-        Parsed::Ok(c) => match a {
-            Parsed::Ok(x) => match b {
-                Parsed::Ok(y) => {
-                    let n = lexer::minus(y.w, x.w);
-                    copy(words, x.w, c.w, n);
-                    let w = sum(c.w, n);
-                    Parsed::Ok(Cursor { at: c.at, w })
-                }
-                Parsed::Refused(e, q) => p,
-            },
-            Parsed::Refused(e, q) => p,
-        },
-        Parsed::Refused(e, q) => p,
+    let c = p?;
+    match (a, b) {
+        (Ok(x), Ok(y)) => {
+            let n = y.w.saturating_sub(x.w);
+            copy(words, x.w, c.w, n);
+            let w = c.w.saturating_add(n);
+            Ok(Cursor { at: c.at, w })
+        }
+        _ => p,
     }
 }
 
@@ -167,14 +147,8 @@ fn is_void(p: Parsed, first: u64) -> bool
     ensures { result ≡ void_p p first }
 {
     match p {
-        Parsed::Ok(c) => {
-            if 0 < c.w {
-                first == records::VOID_NODE
-            } else {
-                false
-            }
-        }
-        Parsed::Refused(e, q) => false,
+        Ok(c) => 0 < c.w && first == records::VOID_NODE,
+        Err(_) => false,
     }
 }
 
@@ -185,7 +159,7 @@ fn void_type(text: &[u8], p: Parsed, dest: u64) -> bool
     if dest != 0 {
         return false;
     }
-    let nowhere = Parsed::Ok(Cursor { at: 0, w: 0 });
+    let nowhere = Ok(Cursor { at: 0, w: 0 });
     let q = inst_operands::resume(nowhere, p);
     let mut first: [u64; 1] = [0];
     let q1 = types::parse_type(text, &mut first, q, records::DEPTH_LIMIT);

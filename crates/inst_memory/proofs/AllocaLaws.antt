@@ -3,7 +3,10 @@
 use mathlib.Core.Path.{◌≡◌, refl, sym, ap, ◌∙◌, subst}
 use mathlib.Core.List.{List, ◌∷◌, ◌++◌, append-nil}
 use mathlib.Core.Option.{Option, none, some}
-use Prim.Native.Nat.{ℕ, zero, suc, ◌+◌, ◌*◌}
+use mathlib.Core.Bool.{Bool, true, false}
+use Rattle.std.specs.Prelude.{Some, None}
+use Rattle.std.specs.Prelude.{Option as Found}
+use Prim.Native.Nat.{ℕ, suc, ◌+◌, ◌*◌}
 use native.Mathlib.Omega.{arith}
 use lib.ListN.{length}
 use Rattle.program.specs.Prog.{Prog, ret, ok}
@@ -11,7 +14,7 @@ use Rattle.grammar.specs.Instructions.{clauses, alloca_node}
 use Rattle.node_words.specs.Writes.{joined, pushed, pushes, closes}
 use Rattle.lexer.specs.Reads.{At, at, out, Leads, Goal, made, same}
 use Rattle.lexer.specs.Parsed.{Parsed, Refused}
-use Rattle.lexer.proofs.Laws.{spare}
+use Rattle.lexer.proofs.Laws.{spare, true_false}
 use Rattle.node_words.proofs.Laws.{push_then, close_is}
 use Rattle.inst_operands.specs.Trailing.{align_of}
 use Rattle.inst_memory.specs.Alloca.{counted, aligned_p, aligns}
@@ -22,74 +25,53 @@ use Rattle.inst_operands.proofs.OperandLaws.{ok_not}
 no_none : {B : Type 0} (x : List ℕ) → none ≡ some x → B
 no_none x e = absurd (let z : ◌≡◌ {A = ℕ} 0 1 = cc in omega arith)
 
-counted_some : (n : ℕ) (x : List ℕ) → (n ≡ 0 → ⊥) → counted n x ≡ some x
+counted_some : (n : Bool) (x : List ℕ) → n ≡ true → counted n x ≡ some x
 unfolding counted
-counted_some zero x h = absurd (h refl)
-counted_some (suc n) x h = refl
+counted_some true x h = refl
+counted_some false x h = true_false h
 
-counted_same : (m : ℕ) (us ws : List ℕ) → counted m us ≡ some ws → us ≡ ws
+counted_same : (m : Bool) (us ws : List ℕ) → counted m us ≡ some ws → us ≡ ws
 unfolding counted
-counted_same zero us ws e = no_none ws e
-counted_same (suc m) us ws e = cc
+counted_same false us ws e = no_none ws e
+counted_same true us ws e = cc
 
 parts_same : (a b : Option (List ℕ)) (x y : List ℕ) (i j : ℕ) → ok (clauses a x) i ≡ ok (clauses b y) j → a ≡ b
 parts_same a b x y i j e = cc
 
 -- the count is read again
-pub shows_count : (n m : ℕ) (ws al bl : List ℕ) {text : List ℕ} {z : Parsed} → (n ≡ 0 → ⊥) → Shows (made (λ us. clauses (counted m us) bl) text z) (clauses (counted n ws) al) ws text z
+pub shows_count : (n m : Bool) (ws al bl : List ℕ) {text : List ℕ} {z : Parsed} → n ≡ true → Shows (made (λ us. clauses (counted m us) bl) text z) (clauses (counted n ws) al) ws text z
 shows_count n m ws al bl {text} {z} h b k low _ _ _ j e (at {ws = us} {cur = cur} {words = words} a) =
     let s : us ≡ ws = counted_same m us ws (parts_same (counted m us) (counted n ws) bl al cur.at j e ∙ counted_some n ws h) in
     record { cur = cur; is = refl; at = subst (λ (l : List ℕ). At b text z k low l cur words) s a }
 shows_count n m ws al bl h b k low _ _ _ j e (out {e = en} {q = x}) = ok_not (clauses (counted n ws) al) j en x (sym e)
 
-pub align_then : {A : Type 0} {f : Prog A} (has v : ℕ) {c : ℕ} {mid : List ℕ} {E : Goal A} {text : List ℕ} {p0 p q p' : Parsed} {w w1 w' : List ℕ} → (q ≡ aligned_p has p) × (w1 ≡ aligns has v p w) → Leads f c (mid ++ align_of has v) E text p0 q w1 p' w' → Leads f (suc c) mid E text p0 p w p' w'
+pub align_then : {A : Type 0} {f : Prog A} (al : Found ℕ) {c : ℕ} {mid : List ℕ} {E : Goal A} {text : List ℕ} {p0 p q p' : Parsed} {w w1 w' : List ℕ} → (q ≡ aligned_p al p) × (w1 ≡ aligns al p w) → Leads f c (mid ++ align_of al) E text p0 q w1 p' w' → Leads f (suc c) mid E text p0 p w p' w'
 unfolding aligned_p aligns align_of
-align_then {A} {f} zero v {c} {mid} {E} {text} {p0} {p} {q} {p'} {w} {w1} {w'} e r =
+align_then {A} {f} None {c} {mid} {E} {text} {p0} {p} {q} {p'} {w} {w1} {w'} e r =
     let n : Leads f c mid E text p0 q w1 p' w' = subst (λ (l : List ℕ). Leads f c l E text p0 q w1 p' w') (append-nil mid) r in
     let m : Leads f c mid E text p0 p w1 p' w' = subst (λ (y : Parsed). Leads f c mid E text p0 y w1 p' w') e.0 n in
     spare c (omega arith) (subst (λ (y : List ℕ). Leads f c mid E text p0 p y p' w') e.1 m)
-align_then (suc has) v e r = push_then v e r
+align_then (Some v) e r = push_then v e r
 
-pub alloca_none : (dest n d : ℕ) (t ws al : List ℕ) {c : ℕ} {text : List ℕ} {p0 p q : Parsed} {w w' : List ℕ} → n ≡ 0 → d ≡ length al * 2 → (q ≡ p) × (w' ≡ closes 41 d 1 p0 p w) → Leads (ret (alloca_node dest t (clauses (counted n ws) al))) c (0 ∷ dest ∷ (al ++ t)) (made same text p0) text p0 p w q w'
+pub alloca_none : (dest : ℕ) (n : Bool) (d : ℕ) (t ws al : List ℕ) {c : ℕ} {text : List ℕ} {p0 p q : Parsed} {w w' : List ℕ} → n ≡ false → d ≡ length al * 2 → (q ≡ p) × (w' ≡ closes 41 d 1 p0 p w) → Leads (ret (alloca_node dest t (clauses (counted n ws) al))) c (0 ∷ dest ∷ (al ++ t)) (made same text p0) text p0 p w q w'
 unfolding alloca_node counted
 alloca_none dest n d t ws al {c} {text} {p0} {p} {q} {w} {w'} e f h = rw (e, ← f) (close_is 41 d 1 (dest ∷ (al ++ t)) h)
 
-pub alloca_some : (dest n d d1 : ℕ) (t ws al : List ℕ) {c : ℕ} {text : List ℕ} {p0 p q : Parsed} {w w' : List ℕ} → (n ≡ 0 → ⊥) → d ≡ length al * 2 → d1 ≡ 1 + d → (q ≡ p) × (w' ≡ closes 41 d1 3 p0 p w) → Leads (ret (alloca_node dest t (clauses (counted n ws) al))) c (0 ∷ dest ∷ ((al ++ t) ++ ws)) (made same text p0) text p0 p w q w'
+pub alloca_some : (dest : ℕ) (n : Bool) (d d1 : ℕ) (t ws al : List ℕ) {c : ℕ} {text : List ℕ} {p0 p q : Parsed} {w w' : List ℕ} → n ≡ true → d ≡ length al * 2 → d1 ≡ 1 + d → (q ≡ p) × (w' ≡ closes 41 d1 3 p0 p w) → Leads (ret (alloca_node dest t (clauses (counted n ws) al))) c (0 ∷ dest ∷ ((al ++ t) ++ ws)) (made same text p0) text p0 p w q w'
 unfolding alloca_node
 alloca_some dest n d d1 t ws al {c} {text} {p0} {p} {q} {w} {w'} e f g h = rw (counted_some n ws e, ← f, ← g) (close_is 41 d1 3 (dest ∷ ((al ++ t) ++ ws)) h)
 
 -- the bit of an alignment is 0 or 2
-pub bit_is : (has v d : ℕ) → d ≡ length (align_of has v) * 2 → {d1 : ℕ} → (d ≡ 0 → d1 ≡ 1) × (d ≡ 2 → d1 ≡ 3) → d1 ≡ 1 + d
+pub bit_is : (al : Found ℕ) (d : ℕ) → d ≡ length (align_of al) * 2 → {d1 : ℕ} → (d ≡ 0 → d1 ≡ 1) × (d ≡ 2 → d1 ≡ 3) → d1 ≡ 1 + d
 unfolding align_of
-bit_is zero v d e h = h.0 e ∙ rw e
-bit_is (suc n) v d e h = h.1 e ∙ rw e
-
--- ---- the small functions
-pub bit_two : (has v : ℕ) → (has ≡ 0 → ⊥) → 2 ≡ length (align_of has v) * 2
-unfolding align_of
-bit_two zero v h = absurd (h refl)
-bit_two (suc n) v h = refl
-
-pub bit_none : (has v : ℕ) → has ≡ 0 → 0 ≡ length (align_of has v) * 2
-unfolding align_of
-bit_none zero v h = refl
-bit_none (suc n) v h = absurd (omega arith)
-
-pub no_align : (has v : ℕ) (p : Parsed) (w : List ℕ) → has ≡ 0 → (p ≡ aligned_p has p) × (w ≡ aligns has v p w)
-unfolding aligned_p aligns
-no_align zero v p w h = (refl, refl)
-no_align (suc n) v p w h = absurd (omega arith)
-
-pub some_align : (has v : ℕ) (p : Parsed) (w : List ℕ) {q : Parsed} {w1 : List ℕ} → (has ≡ 0 → ⊥) → (q ≡ pushed p) × (w1 ≡ pushes v p w) → (q ≡ aligned_p has p) × (w1 ≡ aligns has v p w)
-unfolding aligned_p aligns
-some_align zero v p w h e = absurd (h refl)
-some_align (suc n) v p w h e = e
+bit_is None d e h = h.0 e ∙ rw e
+bit_is (Some v) d e h = h.1 e ∙ rw e
 
 -- refusals are handed on
 pub joined_out : (p q : Parsed) {r : Parsed} → r ≡ joined p q → (e x : ℕ) → p ≡ Refused e x → r ≡ Refused e x
 joined_out p q j e x i = j ∙ ap (λ (z : Parsed). joined z q) i
 
-pub align_out : (has v : ℕ) (p : Parsed) (w : List ℕ) {q : Parsed} {w1 : List ℕ} → (q ≡ aligned_p has p) × (w1 ≡ aligns has v p w) → (e x : ℕ) → p ≡ Refused e x → q ≡ Refused e x
+pub align_out : (al : Found ℕ) (p : Parsed) (w : List ℕ) {q : Parsed} {w1 : List ℕ} → (q ≡ aligned_p al p) × (w1 ≡ aligns al p w) → (e x : ℕ) → p ≡ Refused e x → q ≡ Refused e x
 unfolding aligned_p
-align_out zero v p w h e x i = h.0 ∙ i
-align_out (suc n) v p w h e x i = h.0 ∙ ap pushed i
+align_out None p w h e x i = h.0 ∙ i
+align_out (Some v) p w h e x i = h.0 ∙ ap pushed i

@@ -3,7 +3,7 @@
 use mathlib.Core.Path.{◌≡◌, refl, subst}
 use mathlib.Core.Bool.{Bool, true, false}
 use mathlib.Core.List.{List, [], ◌∷◌, ◌++◌}
-use Prim.Native.Nat.{ℕ, zero, suc, ◌+◌, ◌-◌, ◌≤◌, ◌<◌}
+use Prim.Native.Nat.{ℕ, suc, ◌+◌, ◌-◌, ◌≤◌, ◌<◌}
 use native.Mathlib.Omega.{arith}
 use lib.Dec.{ltb}
 use lib.ListN.{length}
@@ -19,17 +19,17 @@ use Rattle.lexer.specs.Reads.{Leads, made, same, reach, Gives, Counts, Aim, Find
 use Rattle.lexer.specs.Parsed.{Parsed}
 use Rattle.lexer.proofs.Laws.{done, stay, then, val, byte_yes, byte_no, token_yes, token_no, more, no_more}
 use Rattle.lexer.proofs.Children.{if_there}
+use Rattle.std.specs.Prelude.{Option, Some, None}
 use Rattle.inst_operands.specs.Trailing.{align_of}
 
 -- ---- an alignment as the code has it
-pub align_none : {has : ℕ} (v : ℕ) {text : List ℕ} {p q : Parsed} → has ≡ 0 → Gives parse_trailing (align_of has v) text p q → Gives parse_trailing [] text p q
+pub align_none : {al : Option ℕ} {text : List ℕ} {p q : Parsed} → al ≡ None → Gives parse_trailing (align_of al) text p q → Gives parse_trailing [] text p q
 unfolding align_of
-align_none v {text} {p} {q} e g = subst (λ (z : ℕ). Gives parse_trailing (align_of z v) text p q) e g
+align_none {text = text} {p = p} {q = q} e g = subst (λ (z : Option ℕ). Gives parse_trailing (align_of z) text p q) e g
 
-pub align_some : {has : ℕ} (v : ℕ) {text : List ℕ} {p q : Parsed} → (has ≡ 0 → ⊥) → Gives parse_trailing (align_of has v) text p q → Gives parse_trailing (v ∷ []) text p q
+pub align_some : {al : Option ℕ} (v : ℕ) {text : List ℕ} {p q : Parsed} → al ≡ Some v → Gives parse_trailing (align_of al) text p q → Gives parse_trailing (v ∷ []) text p q
 unfolding align_of
-align_some {has = zero} v n g = absurd (n refl)
-align_some {has = suc has} v n g = g
+align_some v {text} {p} {q} e g = subst (λ (z : Option ℕ). Gives parse_trailing (align_of z) text p q) e g
 
 -- ---- the indices of a getelementptr
 module _ {text : List ℕ} {p0 q : Parsed} {v : List ℕ} (u n : ℕ) (ws : List ℕ) where

@@ -1,6 +1,7 @@
 -- The parts of an alloca behind its type.
 -- Assumes nothing.
-use Rattle.std.specs.Prelude.{List, ℕ, zero, suc}
+use Rattle.std.specs.Prelude.{List, ℕ, Bool, true, false, Some, None}
+use Rattle.std.specs.Prelude.{Option as Found}
 use Rattle.std.proofs.Math.Option.{Option, none, some}
 use Rattle.program.specs.Prog.{Prog}
 use Rattle.records.specs.Limits.{depth_limit}
@@ -13,16 +14,16 @@ use Rattle.lexer.specs.Parsed.{Parsed}
 abbrev pub counting : ℕ → Option (List ℕ) → List ℕ → Prog Clauses
 counting u n align = clauses_in u (parse_typed_val depth_limit) n align
 
--- A count as the code has it, and as its words, if there is one: 0 is none.
-unfoldable pub counted : ℕ → List ℕ → Option (List ℕ)
-counted zero x = none
-counted (suc n) x = some x
+-- A count as its words, if there is one.
+unfoldable pub counted : Bool → List ℕ → Option (List ℕ)
+counted false x = none
+counted true x = some x
 
 -- An alignment's word, where there is one: where the cursor is then, and the words.
-unfoldable pub aligned_p : ℕ → Parsed → Parsed
-aligned_p zero p = p
-aligned_p (suc n) p = pushed p
+unfoldable pub aligned_p : Found ℕ → Parsed → Parsed
+aligned_p None p = p
+aligned_p (Some v) p = pushed p
 
-unfoldable pub aligns : ℕ → ℕ → Parsed → List ℕ → List ℕ
-aligns zero v p words = words
-aligns (suc n) v p words = pushes v p words
+unfoldable pub aligns : Found ℕ → Parsed → List ℕ → List ℕ
+aligns None p words = words
+aligns (Some v) p words = pushes v p words

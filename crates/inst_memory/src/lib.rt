@@ -136,13 +136,17 @@ fn parse_access(text: &[u8], words: &mut [u64], p: Parsed, dest: u64, form: Form
     let q7 = access_operands(text, words, q6, form.store);
     let t = inst_operands::parse_trailing(text, q7);
     let q8 = t.p;
-    if t.has == 0 {
-        let z = access_operands(text, words, p1, form.store);
-        let q9 = inst_operands::resume(z, q8);
-        return node_words::close(words, p, q9, form.kind, records::D_NONE, form.n);
+    match t.align {
+        None => {
+            let z = access_operands(text, words, p1, form.store);
+            let q9 = inst_operands::resume(z, q8);
+            node_words::close(words, p, q9, form.kind, records::D_NONE, form.n)
+        }
+        Some(v) => {
+            let q10 = node_words::patch(words, p, q8, 2, v);
+            node_words::close(words, p, q10, form.kind, records::D_ALIGN, form.n)
+        }
     }
-    let q10 = node_words::patch(words, p, q8, 2, t.v);
-    node_words::close(words, p, q10, form.kind, records::D_ALIGN, form.n)
 }
 
 // `load T, T V`
@@ -207,16 +211,14 @@ struct RmwOp {
     r: u8,
 }
 
-// How many operations there are.
-const RMW_OPS: usize = 7;
-
-static RMW_WORDS: [&[u8]; 7] = [b"xchg", b"add", b"sub", b"and", b"or", b"xor", b"nand"];
+// The operations of `atomicrmw`, in ast.rs order.
+static RMW_OPS: [&[u8]; 7] = [b"xchg", b"add", b"sub", b"and", b"or", b"xor", b"nand"];
 
 // The rank of the operation that stands from a place to another.
 fn rmw_rank(text: &[u8], from: usize, to: usize) -> usize
     ensures { result ≡ rank (spelled (raw_word (part text.now from to))) rmw_ops }
 {
-    lexer_spelling::spelled_rank(text, from, to, &RMW_WORDS)
+    lexer_spelling::spelled_rank(text, from, to, &RMW_OPS)
 }
 
 // The operation's word, quoted or not; 9 behind any other.
@@ -227,7 +229,7 @@ fn rmw_op(text: &[u8], p: Parsed) -> RmwOp
     let x = lexer_names::read_word(text, q);
     let q1 = x.p;
     let r = rmw_rank(text, x.start, x.end);
-    if r < RMW_OPS {
+    if r < RMW_OPS.len() {
         return RmwOp { p: q1, r: r as u8 };
     }
     let q2 = lexer::refuse(q1, records::Q_OPCODE);
@@ -279,23 +281,21 @@ pub fn parse_fence(text: &[u8], words: &mut [u64], p: Parsed) -> Parsed
     inst_operands::end(text, words, p, q, records::K_FENCE, records::D_NONE, 0)
 }
 
-// What stands behind an alloca's type: `n` is 0 where there is no count, `has` is 0 where there is no alignment.
+// What stands behind an alloca's type: whether there is a count, and the last alignment.
 #[derive(Clone, Copy)]
 struct Rest {
     p: Parsed,
-    n: u8,
-    has: u8,
-    v: u64,
+    counted: bool,
+    align: Option<u64>,
 }
 
 // The last count, written, and the last alignment.
 fn alloca_rest(text: &[u8], words: &mut [u64], p: Parsed) -> Rest
-    ensures { Leads (counting 16777217 none []) 0 [] (made (λ ws. clauses (counted result.n ws) (align_of result.has result.v)) text.now p) text.now p p words.old result.p words.new }
+    ensures { Leads (counting 16777217 none []) 0 [] (made (λ ws. clauses (counted result.counted ws) (align_of result.align)) text.now p) text.now p p words.old result.p words.new }
 {
     let mut q = p;
-    let mut n: u8 = 0;
-    let mut has: u8 = 0;
-    let mut v: u64 = 0;
+    let mut counted = false;
+    let mut align = None;
     for _left in (0..records::TURNS).rev() {
         q = lexer::eat_ws(text, q);
         if lexer::looks(text, q, b',') {
@@ -306,8 +306,7 @@ fn alloca_rest(text: &[u8], words: &mut [u64], p: Parsed) -> Rest
                 q = lexer::eat_ws(text, q);
                 let k = number_counts::parse_int(text, q, 0, records::NUMBER_LIMIT);
                 q = k.p;
-                has = 1;
-                v = k.v;
+                align = Some(k.v);
             } else {
                 if lexer::looks(text, q, b'!') {
                     q = lexer::pass(text, q, 1);
@@ -315,42 +314,50 @@ fn alloca_rest(text: &[u8], words: &mut [u64], p: Parsed) -> Rest
                 } else {
                     q = inst_operands::resume(p, q);
                     q = values::parse_typed_val(text, words, q, records::DEPTH_LIMIT);
-                    n = 1;
+                    counted = true;
                 }
             }
         } else {
-            return Rest { p: q, n, has, v };
+            return Rest {
+                p: q,
+                counted,
+                align,
+            };
         }
     }
-    Rest { p: q, n, has, v }
+    Rest {
+        p: q,
+        counted,
+        align,
+    }
 }
 
 // The same, not written.
 fn pass_rest(text: &[u8], p: Parsed) -> Rest
-    ensures { Dry (counting 16777217 none []) (made (λ ws. clauses (counted result.n ws) (align_of result.has result.v)) text.now p) text.now p result.p }
+    ensures { Dry (counting 16777217 none []) (made (λ ws. clauses (counted result.counted ws) (align_of result.align)) text.now p) text.now p result.p }
 {
     let mut none: [u64; 0] = [];
     alloca_rest(text, &mut none, p)
 }
 
 // The alignment's word, where there is one.
-fn push_align(words: &mut [u64], p: Parsed, has: u8, v: u64) -> Parsed
-    ensures { (result ≡ aligned_p has p) × (words.new ≡ aligns has v p words.old) }
+fn push_align(words: &mut [u64], p: Parsed, align: Option<u64>) -> Parsed
+    ensures { (result ≡ aligned_p align p) × (words.new ≡ aligns align p words.old) }
 {
-    if has == 0 {
-        return p;
+    match align {
+        Some(v) => node_words::push(words, p, v),
+        None => p,
     }
-    node_words::push(words, p, v)
 }
 
 // Detail bit 1 says that an alignment is there.
-fn align_bit(has: u8) -> u8
-    ensures { (v : ℕ) → result ≡ length (align_of has v) * d_alloca_align }
+fn align_bit(align: Option<u64>) -> u8
+    ensures { result ≡ length (align_of align) * d_alloca_align }
 {
-    if has == 0 {
-        return 0;
+    match align {
+        Some(_) => records::D_ALLOCA_ALIGN,
+        None => records::D_NONE,
     }
-    records::D_ALLOCA_ALIGN
 }
 
 // An alloca's detail with a count and an alignment.
@@ -380,12 +387,12 @@ pub fn parse_alloca(text: &[u8], words: &mut [u64], p: Parsed, dest: u64) -> Par
     let s = pass_rest(text, p2);
     let q2 = s.p;
     let q3 = node_words::join(p2, q2);
-    let q4 = push_align(words, q3, s.has, s.v);
+    let q4 = push_align(words, q3, s.align);
     let z = inst_operands::resume(q4, p1);
     let z1 = types::parse_type(text, words, z, records::DEPTH_LIMIT);
     let q5 = inst_operands::resume(z1, q4);
-    let d = align_bit(s.has);
-    if s.n == 0 {
+    let d = align_bit(s.align);
+    if !s.counted {
         return node_words::close(words, p, q5, records::K_ALLOCA, d, 1);
     }
     let z2 = inst_operands::resume(q5, p2);

@@ -1,6 +1,6 @@
 -- The clauses that end an instruction.
 -- Assumes nothing.
-use Rattle.std.specs.Prelude.{◌≡◌, Bool, true, false, List, [], ◌∷◌, ℕ, zero, suc}
+use Rattle.std.specs.Prelude.{◌≡◌, Bool, true, false, List, [], ◌∷◌, ℕ, suc, Option, Some, None}
 use Rattle.std.proofs.Math.Option.{none}
 use Rattle.records.specs.Questions.{q_trailing}
 use Rattle.program.specs.Prog.{Prog}
@@ -9,10 +9,10 @@ use Rattle.grammar.specs.Instructions.{Clauses, clauses, clauses_in}
 use Rattle.lexer.specs.Reads.{Gives, Comes}
 use Rattle.lexer.specs.Parsed.{Parsed}
 
--- An alignment as the code has it, and as its words: 0 is none.
-unfoldable pub align_of : ℕ → ℕ → List ℕ
-align_of zero v = []
-align_of (suc n) v = v ∷ []
+-- An alignment as its words.
+unfoldable pub align_of : Option ℕ → List ℕ
+align_of None = []
+align_of (Some v) = v ∷ []
 
 -- the clauses of `parse_trailing`: no count
 abbrev pub trailing : ℕ → List ℕ → Prog Clauses

@@ -17,26 +17,24 @@ ghost use Rattle.inst_operands.specs.Dry.{Dry};
 
 use lexer::{Cursor, Num, Parsed};
 
-// Where the reader is behind the clauses that end an instruction, and the last alignment: `has` is 0 where there is none, else 1.
+// Where the reader is behind the clauses that end an instruction, and the last alignment.
 #[derive(Clone, Copy)]
 pub struct Trail {
     pub p: Parsed,
-    pub has: u8,
-    pub v: u64,
+    pub align: Option<u64>,
 }
 
 // The same behind one of them, and whether the next may follow.
 #[derive(Clone, Copy)]
 pub struct Turn {
     pub p: Parsed,
-    pub has: u8,
-    pub v: u64,
+    pub align: Option<u64>,
     pub more: bool,
 }
 
 // `, align N` or `, !metadata`, or none, behind the alignment so far.
-fn trail_step(text: &[u8], p: Parsed, has: u8, v: u64) -> Turn
-    ensures { TrailStep text.now p (align_of has v) result.p (align_of result.has result.v) result.more }
+fn trail_step(text: &[u8], p: Parsed, align: Option<u64>) -> Turn
+    ensures { TrailStep text.now p (align_of align) result.p (align_of result.align) result.more }
 {
     let q = lexer::eat_ws(text, p);
     if lexer::looks(text, q, b',') {
@@ -46,11 +44,9 @@ fn trail_step(text: &[u8], p: Parsed, has: u8, v: u64) -> Turn
             let q3 = lexer::pass_word(text, q2, b"align");
             let q4 = lexer::eat_ws(text, q3);
             let n = number_counts::parse_int(text, q4, 0, records::NUMBER_LIMIT);
-            let q5 = n.p;
             return Turn {
-                p: q5,
-                has: 1,
-                v: n.v,
+                p: n.p,
+                align: Some(n.v),
                 more: true,
             };
         }
@@ -59,44 +55,39 @@ fn trail_step(text: &[u8], p: Parsed, has: u8, v: u64) -> Turn
             let q7 = lexer_names::skip_metadata_ref(text, q6);
             return Turn {
                 p: q7,
-                has,
-                v,
+                align,
                 more: true,
             };
         }
         let q8 = lexer::refuse(q2, records::Q_TRAILING);
         return Turn {
             p: q8,
-            has,
-            v,
+            align,
             more: false,
         };
     }
     Turn {
         p: q,
-        has,
-        v,
+        align,
         more: false,
     }
 }
 
 // `, align N` and `, !metadata`, as many as stand there (`parse_trailing`).
 pub fn parse_trailing(text: &[u8], p: Parsed) -> Trail
-    ensures { Gives parse_trailing (align_of result.has result.v) text.now p result.p }
+    ensures { Gives parse_trailing (align_of result.align) text.now p result.p }
 {
     let mut q = p;
-    let mut has: u8 = 0;
-    let mut v: u64 = 0;
+    let mut align = None;
     for _left in (0..records::TURNS).rev() {
-        let s = trail_step(text, q, has, v);
+        let s = trail_step(text, q, align);
         q = s.p;
-        has = s.has;
-        v = s.v;
+        align = s.align;
         if !s.more {
-            return Trail { p: q, has, v };
+            return Trail { p: q, align };
         }
     }
-    Trail { p: q, has, v }
+    Trail { p: q, align }
 }
 
 // The end of an instruction that was begun at p0: what trails is passed, the header written.
@@ -146,16 +137,9 @@ pub fn label_node(words: &mut [u64], p: Parsed, name: u64) -> Parsed
 pub fn resume(p: Parsed, q: Parsed) -> Parsed
     ensures { result ≡ resumed p q }
 {
-    match q {
-        Parsed::Ok(b) => match p {
-            Parsed::Ok(c) => Parsed::Ok(Cursor { at: b.at, w: c.w }),
-            Parsed::Refused(e, x) => Parsed::Refused(e, x),
-        },
-        Parsed::Refused(e, x) => match p {
-            Parsed::Ok(c) => Parsed::Refused(e, x),
-            Parsed::Refused(f, y) => Parsed::Refused(e, x),
-        },
-    }
+    let b = q?;
+    let c = p?;
+    Ok(Cursor { at: b.at, w: c.w })
 }
 
 // A type, not written.

@@ -70,36 +70,33 @@ pub fn parse_fneg(text: &[u8], words: &mut [u64], p: Parsed, dest: u64) -> Parse
 
 // A predicate, as its rank.
 #[derive(Clone, Copy)]
-pub struct Pred {
-    pub p: Parsed,
-    pub r: u8,
+struct Pred {
+    p: Parsed,
+    r: u8,
 }
 
+// The predicates of `fcmp`, in ast.rs order.
 static FCMP_PREDICATES: [&[u8]; 16] = [
     b"false", b"oeq", b"ogt", b"oge", b"olt", b"ole", b"one", b"ord", b"ueq", b"ugt", b"uge",
     b"ult", b"ule", b"une", b"uno", b"true",
 ];
 
-// A predicate of `fcmp`, in ast.rs order.
-fn fcmp_rank(text: &[u8], p: Parsed) -> Ranked
-    ensures { (result.r ≡ rank_p fcmp_preds text.now p) × (result.p ≡ ranked_p fcmp_preds text.now p) }
+// A predicate of a table, by its rank (`parse_fcmp_pred`, `parse_icmp_pred`).
+fn parse_predicate(text: &[u8], p: Parsed, table: &[&[u8]]) -> Pred
+    requires { length table.now ≤ 256 }
+    ensures { Gives (predicate (words_of table.now)) result.r text.now p result.p }
 {
-    lexer_keywords::match_rank(text, p, &FCMP_PREDICATES)
-}
-
-// `parse_fcmp_pred`
-pub fn parse_fcmp_pred(text: &[u8], p: Parsed) -> Pred
-    ensures { Gives (predicate fcmp_preds) result.r text.now p result.p }
-{
-    let q = lexer::eat_ws(text, p);
-    let k = fcmp_rank(text, q);
-    let r = k.r;
-    let q1 = k.p;
-    if r < 16 {
-        return Pred { p: q1, r: r as u8 };
+    let k = lexer_keywords::match_rank(text, lexer::eat_ws(text, p), table);
+    if k.r < table.len() {
+        return Pred {
+            p: k.p,
+            r: k.r as u8,
+        };
     }
-    let q2 = lexer::refuse(q1, records::Q_PREDICATE);
-    Pred { p: q2, r: 0 }
+    Pred {
+        p: lexer::refuse(k.p, records::Q_PREDICATE),
+        r: 0,
+    }
 }
 
 // `fcmp P T V, V`
@@ -108,7 +105,7 @@ pub fn parse_fcmp(text: &[u8], words: &mut [u64], p: Parsed, dest: u64) -> Parse
 {
     let q = node_words::begin(words, p, dest);
     let q1 = attributes::skip_fast_math_flags(text, q);
-    let k = parse_fcmp_pred(text, q1);
+    let k = parse_predicate(text, q1, &FCMP_PREDICATES);
     let q2 = k.p;
     binary(text, words, p, q2, records::K_FCMP, k.r)
 }
@@ -128,31 +125,10 @@ pub fn parse_conv(text: &[u8], words: &mut [u64], p: Parsed, op: u8, dest: u64) 
     inst_operands::end(text, words, p, q4, records::K_CONV, op, 3)
 }
 
+// The predicates of `icmp`, in ast.rs order.
 static ICMP_PREDICATES: [&[u8]; 10] = [
     b"eq", b"ne", b"ugt", b"uge", b"ult", b"ule", b"sgt", b"sge", b"slt", b"sle",
 ];
-
-// A predicate of `icmp`, in ast.rs order.
-fn icmp_rank(text: &[u8], p: Parsed) -> Ranked
-    ensures { (result.r ≡ rank_p icmp_preds text.now p) × (result.p ≡ ranked_p icmp_preds text.now p) }
-{
-    lexer_keywords::match_rank(text, p, &ICMP_PREDICATES)
-}
-
-// `parse_icmp_pred`
-pub fn parse_icmp_pred(text: &[u8], p: Parsed) -> Pred
-    ensures { Gives (predicate icmp_preds) result.r text.now p result.p }
-{
-    let q = lexer::eat_ws(text, p);
-    let k = icmp_rank(text, q);
-    let r = k.r;
-    let q1 = k.p;
-    if r < 10 {
-        return Pred { p: q1, r: r as u8 };
-    }
-    let q2 = lexer::refuse(q1, records::Q_PREDICATE);
-    Pred { p: q2, r: 0 }
-}
 
 // `samesign`, if it stands there.
 pub fn skip_samesign(text: &[u8], p: Parsed) -> Parsed
@@ -167,7 +143,7 @@ pub fn parse_icmp(text: &[u8], words: &mut [u64], p: Parsed, dest: u64) -> Parse
 {
     let q = node_words::begin(words, p, dest);
     let q1 = skip_samesign(text, q);
-    let k = parse_icmp_pred(text, q1);
+    let k = parse_predicate(text, q1, &ICMP_PREDICATES);
     let q2 = k.p;
     binary(text, words, p, q2, records::K_ICMP, k.r)
 }

@@ -17,16 +17,8 @@ fn taken(words: &[u64], q: Parsed, i: usize) -> u64
     ensures { result ≡ taken_p i q words.now }
 {
     match q {
-        Parsed::Ok(c) => {
-            if i < c.w {
-                if i < words.len() {
-                    return words[i];
-                }
-                return 0;
-            }
-            0
-        }
-        Parsed::Refused(e, x) => 0,
+        Ok(c) if i < c.w && i < words.len() => words[i],
+        _ => 0,
     }
 }
 
@@ -60,10 +52,7 @@ fn case_int(text: &[u8], p: Parsed) -> Case
 fn stopped(p: Parsed) -> bool
     ensures { result ≡ stopped_p p }
 {
-    match p {
-        Parsed::Ok(c) => false,
-        Parsed::Refused(e, q) => true,
-    }
+    p.is_err()
 }
 
 // So many children there are with the labels of the cases.
@@ -151,7 +140,7 @@ pub fn parse_switch(text: &[u8], words: &mut [u64], p: Parsed) -> Parsed
     let l = switch_labels(text, words, z2);
     let z3 = l.p;
     let q7 = inst_operands::resume(z3, q6);
-    let count = lexer::minus(c.n as usize, SWITCH_FRONT as usize);
+    let count = c.n.saturating_sub(SWITCH_FRONT);
     let q8 = node_words::patch(words, p, q7, 1, count as u64);
     node_words::close(words, p, q8, records::K_SWITCH, records::D_NONE, c.n)
 }

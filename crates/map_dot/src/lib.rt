@@ -15,13 +15,6 @@ ghost use Rattle.map_dot.specs.Views.{sort_of_lines, drawn_by};
 use buffer::{PAST, put_all};
 use quoted::Label;
 
-// A map of so many bytes, or one that is too long (27).
-#[derive(Clone, Copy)]
-pub enum Drawn {
-    Map(usize),
-    TooLong,
-}
-
 // The line of a node.
 fn put_node(out: &mut [u8], at: usize, piece: &[u8], label: Label) -> usize
     ensures { Stores (node_line (block_name piece.now label.number label.word)) at out.old result out.new }
@@ -44,9 +37,8 @@ fn put_lines(
     ensures { Stores (lines_of (sort_of_lines edges) (blocks_from n text.now (behind_node words.now) (drop entry_words directory.now))) at out.old result out.new }
 {
     let mut k = at;
-    let mut i: usize = 0;
     let mut w = record_blocks::behind_node(words, 0);
-    while i < n {
+    for i in 0..n {
         if directory.len() / records::ENTRY_WORDS <= i + 1 {
             return k;
         }
@@ -65,7 +57,6 @@ fn put_lines(
             k = put_node(out, k, piece, label);
         }
         w = record_blocks::behind_node(words, w);
-        i += 1;
     }
     k
 }
@@ -74,10 +65,8 @@ fn put_lines(
 fn clear(out: &mut [u8], from: usize)
     ensures { out.new ≡ take from out.old ++ replicate (length out.old - from) 0 }
 {
-    let mut i = from;
-    while i < out.len() {
-        out[i] = 0;
-        i += 1;
+    if from < out.len() {
+        out[from..].fill(0);
     }
 }
 
@@ -86,31 +75,30 @@ fn put_map(out: &mut [u8], text: &[u8], words: &[u64], directory: &[u64], entrie
     ensures { Stores (map_in entries text.now words.now directory.now) 0 out.old result out.new }
 {
     // the first entry is the head's, the last the tail's
-    let n = lexer::minus(entries, 2);
+    let n = entries.saturating_sub(2);
     let k = put_all(out, 0, b"digraph {\n");
     let k1 = put_lines(out, k, text, words, directory, n, false);
     let k2 = put_lines(out, k1, text, words, directory, n, true);
     put_all(out, k2, b"}\n")
 }
 
-// The map in a lent buffer, with zeros behind it; where it is too long, zeros alone.
+// How many bytes the map in a lent buffer has, with zeros behind it; where it is too long (27), none, and zeros alone.
 pub fn block_map(
     text: &[u8],
     words: &[u64],
     directory: &[u64],
     entries: usize,
     out: &mut [u8],
-) -> Drawn
+) -> Option<usize>
     ensures { drawn_by result out.new ≡ block_map (length out.old) entries text.now words.now directory.now }
 {
     let n = put_map(out, text, words, directory, entries);
     let within = n <= records::TEXT_LIMIT;
-    if within {
-        if n <= out.len() {
-            clear(out, n);
-            return Drawn::Map(n);
-        }
+    let fits = n <= out.len();
+    if within && fits {
+        clear(out, n);
+        return Some(n);
     }
     clear(out, 0);
-    Drawn::TooLong
+    None
 }

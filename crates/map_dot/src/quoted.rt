@@ -26,22 +26,15 @@ const QUOTE: u16 = b'"' as u16;
 
 const BACKSLASH: u16 = b'\\' as u16;
 
+#[tactic(auto, unfolding(map_spec::specs::Drawing::is_plain))]
 fn is_plain(x: u16) -> bool
     ensures { result ≡ is_plain x }
 {
-    if x < FIRST {
-        return false;
-    }
-    if LAST < x {
-        return false;
-    }
-    if x == QUOTE {
-        return false;
-    }
-    x != BACKSLASH
+    FIRST <= x && x <= LAST && x != QUOTE && x != BACKSLASH
 }
 
 // A capital hexadecimal digit, the last of a number.
+#[tactic(auto, unfolding(map_spec::specs::Drawing::hex_digit))]
 fn last_digit(x: u16) -> u8
     ensures { result ≡ hex_digit (x % HEX) }
 {
@@ -66,10 +59,8 @@ fn put_letters(out: &mut [u8], at: usize, raw: &[u8]) -> usize
     ensures { Stores (letters raw.now) at out.old result out.new }
 {
     let mut k = at;
-    let mut i = 0;
-    while i < raw.len() {
-        k = put_letter(out, k, raw[i] as u16);
-        i += 1;
+    for x in raw {
+        k = put_letter(out, k, u16::from(*x));
     }
     k
 }

@@ -8,16 +8,13 @@ ghost use Rattle.map_spec.specs.Blocks.{name_in, block_name, branches, name_here
 use crate::quoted;
 use crate::quoted::Label;
 use buffer::{PAST, put_all};
-use record_steps::Step;
 
 // The terminators that name targets.
+#[tactic(auto, unfolding(map_spec::specs::Blocks::branches))]
 fn names_targets(kind: u8) -> bool
     ensures { result ≡ branches kind }
 {
-    if kind == records::K_BR {
-        return true;
-    }
-    kind == records::K_SWITCH
+    kind == records::K_BR || kind == records::K_SWITCH
 }
 
 // The last node from a place on, n steps on at most.
@@ -25,13 +22,11 @@ fn last(own: &[u64], first: usize, n: u16) -> usize
     ensures { result ≡ last_from n own.now first }
 {
     let mut at = first;
-    let mut left = n;
-    while 0 < left {
+    for _i in 0..n {
         match record_steps::next(own, at, own.len()) {
-            Step::To(to) => at = to,
-            Step::Nothing => return at,
+            Some(to) => at = to,
+            None => return at,
         }
-        left -= 1;
     }
     at
 }
@@ -77,17 +72,15 @@ fn put_edges_from(
 {
     let mut k = at;
     let mut place = first;
-    let mut left = n;
-    while 0 < left {
+    for _i in 0..n {
         if k == PAST {
             return k;
         }
         k = put_edge_to(out, k, piece, label, own, place);
         match record_steps::next(own, place, own.len()) {
-            Step::To(to) => place = to,
-            Step::Nothing => return k,
+            Some(to) => place = to,
+            None => return k,
         }
-        left -= 1;
     }
     k
 }
@@ -108,7 +101,7 @@ fn put_edges_at(
         return at;
     }
     match record_steps::child(own, terminator) {
-        Step::To(first) => put_edges_from(
+        Some(first) => put_edges_from(
             out,
             at,
             piece,
@@ -117,7 +110,7 @@ fn put_edges_at(
             first,
             record_steps::children_in(header),
         ),
-        Step::Nothing => at,
+        None => at,
     }
 }
 
@@ -126,7 +119,7 @@ pub fn put_edges(out: &mut [u8], at: usize, piece: &[u8], label: Label, own: &[u
     ensures { Stores (edges_to (block_name piece.now label.number label.word) (targets_in piece.now own.now)) at out.old result out.new }
 {
     match record_steps::child(own, 0) {
-        Step::To(first) => {
+        Some(first) => {
             let terminator = last(
                 own,
                 first,
@@ -134,6 +127,6 @@ pub fn put_edges(out: &mut [u8], at: usize, piece: &[u8], label: Label, own: &[u
             );
             put_edges_at(out, at, piece, label, own, terminator)
         }
-        Step::Nothing => at,
+        None => at,
     }
 }

@@ -2,52 +2,53 @@
 -- Assumes nothing.
 use mathlib.Core.Path.{◌≡◌, refl, sym}
 use mathlib.Core.Bool.{Bool, true, false}
-use Prim.Native.Nat.{ℕ, ◌+◌, ◌*◌, ◌≤◌, ◌<◌}
+use Prim.Native.Nat.{ℕ, ◌+◌, ◌*◌, ◌^◌, ◌≤◌, ◌<◌}
 use native.Mathlib.Omega.{arith}
 use lib.Dec.{leb}
 use borrow.Author.Tests.{le-leb, lt-leb, leb-true, leb-false}
+use Rattle.std.proofs.Common.{Option, Some, None}
+use Rattle.std.specs.Prelude.{SomeIff}
 use Rattle.program.specs.Choice.{pick}
 use Rattle.records.specs.Limits.{number_limit}
 use Rattle.number_bits.specs.Number.{capped, shifted}
-use Rattle.number_bits.specs.declared.Val.{Val}
-use Rattle.number_bits.specs.declared.Val.TheVariants.{Exact, Over}
 
-pub small : (a : ℕ) → a ≤ number_limit → capped a ≡ Exact a
+pub small : (a : ℕ) → a ≤ number_limit → capped a ≡ Some a
 unfolding capped
 small a h = rw (le-leb _ _ h)
 
-big : (a : ℕ) → number_limit < a → capped a ≡ Over
+big : (a : ℕ) → number_limit < a → capped a ≡ None
 unfolding capped
 big a h = rw (lt-leb _ _ h)
 
-pub exact_of : (a v : ℕ) → Exact v ≡ capped a → v ≡ a
+pub exact_of : (a v : ℕ) → Some v ≡ capped a → v ≡ a
 unfolding capped
 exact_of a v e = go (leb a number_limit) e
   where
-    go : (z : Bool) → Exact v ≡ pick z (Exact a) Over → v ≡ a
+    go : (z : Bool) → Some v ≡ pick z (Some a) None → v ≡ a
     go true e = cc
     go false e = cc
 
-pub over_of : (a : ℕ) → Over ≡ capped a → number_limit < a
+pub over_of : (a : ℕ) → None ≡ capped a → number_limit < a
 unfolding capped
 over_of a e = go (leb a number_limit) refl e
   where
-    go : (z : Bool) → leb a number_limit ≡ z → Over ≡ pick z (Exact a) Over → number_limit < a
+    go : (z : Bool) → leb a number_limit ≡ z → None ≡ pick z (Some a) None → number_limit < a
     go true f e = absurd (let q : ◌≡◌ {A = ℕ} 0 1 = cc in omega arith)
     go false f e = leb-false _ _ f
 
--- the steps of `shift`
-pub shift_fits : (n : Val) (v d : ℕ) → n ≡ Exact v → v * 10 + d ≤ number_limit → Exact (v * 10 + d) ≡ shifted n d
+-- the exits of `shift`
+pub shift_stays : (n : Option ℕ) (d : ℕ) → n ≡ None → None ≡ shifted n d
 unfolding shifted
-shift_fits n v d e h = rw e (sym (small _ h))
+shift_stays n d e = rw e
 
-pub shift_over : (n : Val) (v d : ℕ) → n ≡ Exact v → number_limit < v * 10 + d → Over ≡ shifted n d
+pub shift_over : (n : Option ℕ) (v d : ℕ) → n ≡ Some v → (v * 10 < 2 ^ 64 → ⊥) → None ≡ shifted n d
 unfolding shifted
-shift_over n v d e h = rw e (sym (big _ h))
+shift_over n v d e h = rw e (sym (big _ (omega arith)))
 
-pub shift_still : (n : Val) (d : ℕ) → n ≡ Over → Over ≡ shifted n d
+pub shift_sum : (n r : Option ℕ) (v w x d : ℕ) → n ≡ Some v → w ≡ v * 10 → x ≡ d → SomeIff r (w + x < 2 ^ 64) (w + x) → r ≡ shifted n d
 unfolding shifted
-shift_still n d e = rw e
+shift_sum n None v w x d e f g h = rw e (sym (big _ (omega arith)))
+shift_sum n (Some y) v w x d e f g h = rw (e, h.1, f, g) (sym (small _ (omega arith)))
 
 -- a digit more of what is held is a digit more of the number
 pub shifted_more : (v d : ℕ) → shifted (capped v) d ≡ capped (v * 10 + d)

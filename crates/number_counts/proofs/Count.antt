@@ -4,7 +4,7 @@ use mathlib.Core.Path.{◌≡◌, refl, sym, ap, ◌∙◌}
 use mathlib.Core.List.{List, [], ◌∷◌}
 use mathlib.Core.Bool.{Bool, true, false, ◌&&◌}
 use mathlib.Core.Option.{none, some}
-use Prim.Native.Nat.{ℕ, zero, suc, ◌+◌, ◌-◌, ◌*◌, ◌≤◌, ◌<◌}
+use Prim.Native.Nat.{ℕ, zero, suc, ◌+◌, ◌*◌, ◌≤◌, ◌<◌}
 use native.Mathlib.Omega.{arith}
 use lib.ListN.{length, get_or, take, drop, drop_of_length-le}
 use lib.Dec.{leb, eqb}
@@ -16,20 +16,20 @@ use Rattle.program.specs.Local.{scan_len_le}
 use Rattle.grammar.specs.Lexer.{refuse, place}
 use Rattle.grammar.specs.Numbers.{digit_step, digits, value_of, number_of, parse_int}
 use Rattle.records.specs.Limits.{number_limit}
-use Rattle.lexer.specs.Step.{step_code, taken}
+use Rattle.lexer.specs.Step.{taken}
 use Rattle.number_bits.specs.Number.{capped, shifted}
 use Rattle.number_bits.proofs.Shifts.{small, shifted_more}
 use Rattle.number_counts.specs.Number.{added, NumAt}
-use Rattle.number_bits.specs.declared.Val.{Val}
-use Rattle.number_bits.specs.declared.Val.TheVariants.{Exact}
+use Rattle.std.specs.Prelude.{max}
+use Rattle.std.proofs.Common.{Option as Maybe, Some}
 use Rattle.program.specs.Lists.{drop_next}
-use Rattle.lexer.proofs.Scan.{scan_more, scan_stop, scan_out, stops, goes}
+use Rattle.lexer.proofs.Scan.{scan_some, scan_stop, scan_out, end_at}
 use Rattle.lexer.proofs.Laws.{scan_run}
 
-pub add_none : (n : Val) (x : ℕ) → x ≡ 95 → n ≡ added n x
+pub add_none : (n : Maybe ℕ) (x : ℕ) → x ≡ 95 → n ≡ added n x
 add_none n x e = rw (eq-eqb _ _ e)
 
-pub add_some : (n r : Val) (x d : ℕ) → (x ≡ 95 → ⊥) → d ≡ class_of x → r ≡ shifted n d → r ≡ added n x
+pub add_some : (n r : Maybe ℕ) (x d : ℕ) → (x ≡ 95 → ⊥) → d ≡ class_of x → r ≡ shifted n d → r ≡ added n x
 add_some n r x d e f s = rw (ne_eqb _ _ e, ← f) s
 
 added_more : (a x : ℕ) → added (capped a) x ≡ capped (pick (eqb x 95) a (a * 10 + class_of x))
@@ -40,47 +40,47 @@ added_more a x = go (eqb x 95)
     go false = shifted_more a (class_of x)
 
 -- ---- the digits up to a place are read
-taken_more : (s : List ℕ) (i q r : ℕ) → i < length s → r ≡ step_code (digit_step q (get_or s i 0)) → (r ≡ 0 → ⊥) → taken digit_step q (drop i s) ≡ get_or s i 0 ∷ taken digit_step (r - 1) (drop (i + 1) s)
+taken_more : (s : List ℕ) (i q r : ℕ) → i < length s → digit_step q (get_or s i 0) ≡ some r → taken digit_step q (drop i s) ≡ get_or s i 0 ∷ taken digit_step r (drop (i + 1) s)
 unfolding scan_len
-taken_more s i q r h e n =
-    let z : digit_step q (get_or s i 0) ≡ some (r - 1) = goes _ r e n in
-    rw (drop_next s i h, scan_len, z)
+taken_more s i q r h e = rw (drop_next s i h, scan_len, e)
 
-taken_stop : (s : List ℕ) (i q : ℕ) → i < length s → step_code (digit_step q (get_or s i 0)) ≡ 0 → taken digit_step q (drop i s) ≡ []
+taken_stop : (s : List ℕ) (i q : ℕ) → i < length s → digit_step q (get_or s i 0) ≡ none → taken digit_step q (drop i s) ≡ []
 unfolding scan_len
-taken_stop s i q h e =
-    let z : digit_step q (get_or s i 0) ≡ none = stops _ e in
-    rw (drop_next s i h, scan_len, z)
+taken_stop s i q h e = rw (drop_next s i h, scan_len, e)
 
 taken_out : (s : List ℕ) (i q : ℕ) → length s ≤ i → taken digit_step q (drop i s) ≡ []
 unfolding scan_len
 taken_out s i q h = rw (drop_of_length-le s h)
 
-pub record Counts (text : List ℕ) (at i q : ℕ) (val : Val) : Type 0 where
+pub record Counts (text : List ℕ) (at i q : ℕ) (val : Maybe ℕ) : Type 0 where
   pub acc : ℕ
   pub means : val ≡ capped acc
   pub worth : value_of 0 (taken digit_step 0 (drop at text)) ≡ value_of acc (taken digit_step q (drop i text))
   pub place : at + scan_len digit_step 0 (drop at text) ≡ i + scan_len digit_step q (drop i text)
 
-pub count_none : (text : List ℕ) (at : ℕ) → Counts text at at 0 (Exact 0)
+pub count_none : (text : List ℕ) (at : ℕ) → Counts text at at 0 (Some 0)
 count_none text at = record { acc = 0; means = sym (small 0 (omega arith)); worth = refl; place = refl }
 
-pub count_more : (text : List ℕ) (at i q s : ℕ) (val r : Val) → i < length text → s ≡ step_code (digit_step q (get_or text i 0)) → (s ≡ 0 → ⊥) → Counts text at i q val → r ≡ added val (get_or text i 0) → Counts text at (i + 1) (s - 1) r
-unfolding value_of
-count_more text at i q s val r h e m n d = record {
-  acc = pick (eqb (get_or text i 0) 95) n.acc (n.acc * 10 + class_of (get_or text i 0));
-  means = d ∙ ap (λ (y : Val). added y (get_or text i 0)) n.means ∙ added_more n.acc (get_or text i 0);
-  worth = n.worth ∙ ap (value_of n.acc) (taken_more text i q s h e m);
-  place = n.place ∙ scan_more digit_step text i q s h e m;
-}
+module _ (text : List ℕ) (at i q : ℕ) (val : Maybe ℕ) where
+  pub count_more : (r : ℕ) (t : Maybe ℕ) → i < length text → digit_step q (get_or text i 0) ≡ some r → Counts text at i q val → t ≡ added val (get_or text i 0) → Counts text at (i + 1) r t
+  unfolding value_of
+  count_more r t h e n d = record {
+    acc = pick (eqb (get_or text i 0) 95) n.acc (n.acc * 10 + class_of (get_or text i 0));
+    means = d ∙ ap (λ (y : Maybe ℕ). added y (get_or text i 0)) n.means ∙ added_more n.acc (get_or text i 0);
+    worth = n.worth ∙ ap (value_of n.acc) (taken_more text i q r h e);
+    place = n.place ∙ scan_some digit_step text i q r h e;
+  }
 
-pub count_stop : (text : List ℕ) (at i q : ℕ) (val : Val) → i < length text → step_code (digit_step q (get_or text i 0)) ≡ 0 → Counts text at i q val → NumAt text at (record { at = i; val = val })
-unfolding value_of
-count_stop text at i q val h e n = record { behind = sym (n.place ∙ scan_stop digit_step text i q h e); worth = n.means ∙ ap capped (sym (n.worth ∙ ap (value_of n.acc) (taken_stop text i q h e))) }
+  pub count_stop : i < length text → digit_step q (get_or text i 0) ≡ none → Counts text at i q val → NumAt text at (record { at = i; val = val })
+  unfolding value_of
+  count_stop h e n = record { behind = sym (n.place ∙ scan_stop digit_step text i q h e); worth = n.means ∙ ap capped (sym (n.worth ∙ ap (value_of n.acc) (taken_stop text i q h e))) }
 
-pub count_out : (text : List ℕ) (at i q : ℕ) (val : Val) → length text ≤ i → Counts text at i q val → NumAt text at (record { at = i; val = val })
-unfolding value_of
-count_out text at i q val h n = record { behind = sym (n.place ∙ scan_out digit_step text i q h); worth = n.means ∙ ap capped (sym (n.worth ∙ ap (value_of n.acc) (taken_out text i q h))) }
+  -- where the loop over the places from `at` on ends
+  pub count_past : (m : ℕ) → at ≤ i → length text ≤ i → m ≡ max at (length text) → Counts text at i q val → NumAt text at (record { at = m; val = val })
+  unfolding value_of
+  count_past m l h e n =
+      let g : _ = n.place ∙ scan_out digit_step text i q h in
+      record { behind = end_at digit_step 0 text l h e g ∙ sym g; worth = n.means ∙ ap capped (sym (n.worth ∙ ap (value_of n.acc) (taken_out text i q h))) }
 
 -- ---- a number from lo to hi, whose first digit stands at `at`
 module _ (lo hi at i : ℕ) (r : List ℕ) where

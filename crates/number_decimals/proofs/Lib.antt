@@ -1,4 +1,3 @@
-pub mod Columns
 pub mod Nearest
 pub mod Scale
 pub mod Bits

@@ -2,15 +2,16 @@
 -- Assumes nothing.
 use mathlib.Core.Bool.{Bool, true, false, ◌&&◌}
 use mathlib.Core.Option.{Option, none, some}
-use mathlib.Core.Path.{◌≡◌, refl, sym}
-use Prim.Native.Nat.{ℕ, ◌+◌, ◌-◌, ◌*◌, ◌^◌, ◌<◌, ◌≤◌}
+use mathlib.Core.Path.{◌≡◌, refl, sym, ◌∙◌}
+use Prim.Native.Nat.{ℕ, ◌+◌, ◌-◌, ◌*◌, ◌^◌, ◌<◌, ◌≤◌, min}
 use native.Mathlib.Nat.{lt_of_le_of_lt, zero-add, add-zero, le_refl, pow-le-pow_right}
 use native.Mathlib.Omega.{arith}
 use lib.Dec.{ltb, leb, lit<}
-use borrow.Author.Tests.{lt-ltb, le-ltb, le-leb, lt-leb, leb-true}
+use borrow.Author.Tests.{lt-ltb, le-ltb, le-leb, lt-leb, leb-true, leb-false}
 use Rattle.grammar.specs.Numbers.{nearest, scaled_bits}
-use Rattle.number_decimals.specs.Decimals.{counted, bits_of, powered_bits}
-use Rattle.number_decimals.specs.declared.Decimal.TheVariants.{Bits, Unsupported}
+use Rattle.number_decimals.specs.Decimals.{counted, few_digits, Unsigned, bits_of, powered_bits}
+use Rattle.std.proofs.Common.{Some, None}
+use Rattle.std.specs.Prelude.{Option as Answer}
 
 and_false : (a : Bool) → (a && false) ≡ false
 and_false true = refl
@@ -29,6 +30,13 @@ module _ (m a b : ℕ) where
 
   pub no_low : a + 22 < b → scaled_bits m a b ≡ none
   no_low h = refused (simp (lt-leb b (a + 22) h, and_false))
+
+  pub too_far : 22 < (a - b) + (b - a) → scaled_bits m a b ≡ none
+  too_far h = go (leb b a) refl
+    where
+      go : (t : Bool) → leb b a ≡ t → scaled_bits m a b ≡ none
+      go true e = let k = leb-true b a e in no_high (omega arith)
+      go false e = let k = leb-false b a e in no_low (omega arith)
 
   taken : m < 10 ^ 15 → a ≤ b + 22 → b ≤ a + 22 → (ltb m (10 ^ 15) && (leb a (b + 22) && leb b (a + 22))) ≡ true
   taken h k l = simp (lt-ltb m (10 ^ 15) h, le-leb a (b + 22) k, le-leb b (a + 22) l)
@@ -58,18 +66,31 @@ pub counted_most : (n : ℕ) → 2 ^ 62 < n → counted n ≡ 2 ^ 62
 unfolding counted
 counted_most n h = simp (lt-leb n (2 ^ 62) h)
 
+-- as std's methods say it
+pub counted_min : (n : ℕ) → min n (2 ^ 62) ≡ counted n
+counted_min n = go (leb n (2 ^ 62)) refl
+  where
+    go : (t : Bool) → leb n (2 ^ 62) ≡ t → min n (2 ^ 62) ≡ counted n
+    go true e = let h = leb-true n (2 ^ 62) e in rw (counted_same n h) (omega arith)
+    go false e = let h = leb-false n (2 ^ 62) e in rw (counted_most n h) (omega arith)
+
+pub counted_top : (n : ℕ) → counted (min n (2 ^ 64 - 1)) ≡ counted n
+counted_top n = sym (counted_min (min n (2 ^ 64 - 1))) ∙ omega arith ∙ counted_min n
+
+-- digits that are too many
+pub many : (x z : ℕ) → 10 ^ 15 ≤ x → None ≡ few_digits x z
+unfolding few_digits
+many x z h = simp (le-ltb x (10 ^ 15) h)
+
 -- an exponent out of reach
-module _ (m zeros behind e : ℕ) (far : 2 ^ 63 ≤ e) where
-  pub far_off : (down : Bool) → powered_bits m zeros behind e down ≡ none
+module _ (m zeros behind e : ℕ) where
+  pub far_down : (down : Bool) → down ≡ true → (counted behind + e < 2 ^ 64 → ⊥) → powered_bits m zeros behind e down ≡ none
   unfolding powered_bits
-  far_off true =
-      let z = counted_le zeros in
-      let b = counted_le behind in
-      no_low m (0 + counted zeros) (counted behind + e) (omega arith)
-  far_off false =
-      let z = counted_le zeros in
-      let b = counted_le behind in
-      no_high m (e + counted zeros) (counted behind + 0) (omega arith)
+  far_down down d h = rw d (let z = counted_le zeros in no_low m (0 + counted zeros) (counted behind + e) (omega arith))
+
+  pub far_up : (down : Bool) → down ≡ false → (e + counted zeros < 2 ^ 64 → ⊥) → powered_bits m zeros behind e down ≡ none
+  unfolding powered_bits
+  far_up down d h = rw d (let b = counted_le behind in no_high m (e + counted zeros) (counted behind + 0) (omega arith))
 
 module _ (m zeros behind e : ℕ) (down : Bool) where
   pub down_bits : (z b : ℕ) → z ≡ counted zeros → b ≡ counted behind → down ≡ true → scaled_bits m z (b + e) ≡ powered_bits m zeros behind e down
@@ -81,13 +102,13 @@ module _ (m zeros behind e : ℕ) (down : Bool) where
   up_bits z b p q d = rw (d, p, q, add-zero)
 
 -- the answers as they are seen
-pub bits_are : (b : ℕ) (o : Option ℕ) → o ≡ some b → bits_of (Bits b) ≡ o
+pub bits_are : (b : ℕ) (o : Option ℕ) → o ≡ some b → b < 2 ^ 63 → (bits_of (Some b) ≡ o) × (b < 2 ^ 63)
 unfolding bits_of
-bits_are b o e = sym e
+bits_are b o e h = (sym e, h)
 
-pub none_are : (o : Option ℕ) → o ≡ none → bits_of Unsupported ≡ o
+pub none_are : (r : Answer ℕ) (o : Option ℕ) → r ≡ None → o ≡ none → (bits_of r ≡ o) × Unsigned r
 unfolding bits_of
-none_are o e = sym e
+none_are r o e f = rw (e, f) (refl, tt)
 
 pub tens_small : (k : ℕ) → k < 20 → 10 ^ k < 2 ^ 64
 tens_small k h = lt_of_le_of_lt (pow-le-pow_right (lit< tt) {i = k} {j = 19} (pred k h)) (lit< tt)

@@ -1,30 +1,26 @@
 -- Decimals. 01: "the binary64 nearest its value, ties to even, defined over whole numbers"; "Supported: zero, or at most 15 digits without outer
 -- zeros, times ten to the -22 up to 22."
 -- Assumes nothing.
-use Rattle.std.specs.Prelude.{Bool, true, false, ◌≡◌, ℕ, ◌+◌, ◌*◌, ◌^◌, ◌<◌, ◌≤◌, ltb, leb, eqb}
-use Rattle.std.proofs.Math.Option.{Option, none, some}
+use Rattle.std.specs.Prelude.{Bool, true, false, ◌≡◌, ℕ, ◌+◌, ◌*◌, ◌^◌, ◌<◌, ◌≤◌, ltb, leb, eqb, Option, Some, None, IfSome}
+use Rattle.std.proofs.Math.Option as maybe
 use Rattle.program.specs.Choice.{pick}
 use Rattle.grammar.specs.Numbers.{scaled_bits}
-use Rattle.number_decimals.specs.declared.Decimal.TheVariants.{Bits, Unsupported}
-use Rattle.number_decimals.specs.declared.Decimal.{Decimal}
 use Rattle.number_decimals.specs.declared.Parts.{Parts}
 use Rattle.number_decimals.specs.declared.Significand.{Significand}
 use Rattle.number_decimals.specs.declared.mantissa.Mantissa.{Mantissa}
-use Rattle.number_bits.specs.declared.Val.TheVariants.{Exact, Over}
-use Rattle.number_bits.specs.declared.Val.{Val}
 
--- a number's parts by d are p
-pub record Doubled (q rest d : ℕ) (p : Parts) : Type 0 where
-  pub value : p.q * d + p.rest ≡ 2 * (q * d + rest)
+-- twice the number whose parts by d are given
+pub record Doubled (given : Parts) (d : ℕ) (p : Parts) : Type 0 where
+  pub value : p.q * d + p.rest ≡ 2 * (given.q * d + given.rest)
   pub left : p.rest < d
   pub short : p.q < 2 ^ 53
 
 -- n more bits of v: the quotient by d has 53 bits
 pub record Scaled (v d : ℕ) (s : Significand) : Type 0 where
-  pub value : s.q * d + s.rest ≡ v * 2 ^ s.n
-  pub left : s.rest < d
-  pub long : 2 ^ 52 ≤ s.q
-  pub short : s.q < 2 ^ 53
+  pub value : s.parts.q * d + s.parts.rest ≡ v * 2 ^ s.n
+  pub left : s.parts.rest < d
+  pub long : 2 ^ 52 ≤ s.parts.q
+  pub short : s.parts.q < 2 ^ 53
   pub few : s.n ≤ 104
 
 -- v in two halves of 52 bits
@@ -37,49 +33,42 @@ pub record Product (v : ℕ) (p : Parts) : Type 0 where
 unfoldable pub counted : ℕ → ℕ
 counted n = pick (leb n (2 ^ 62)) n (2 ^ 62)
 
-abbrev pub no_digits : Mantissa
-no_digits = record { sig = 0; zeros = 0; many = false }
+abbrev pub no_digits : Option Mantissa
+no_digits = Some (record { sig = 0; zeros = 0 })
 
-abbrev pub many_digits : Mantissa
-many_digits = record { sig = 0; zeros = 0; many = true }
-
--- the digits of x, and z zeros behind: "at most 15 digits without outer zeros"
-unfoldable pub few_digits : ℕ → ℕ → Mantissa
-few_digits x z = pick (ltb x (10 ^ 15)) (record { sig = x; zeros = z; many = false }) many_digits
+-- the digits of x, and z zeros behind, or none where they are too many: "at most 15 digits without outer zeros"
+unfoldable pub few_digits : ℕ → ℕ → Option Mantissa
+few_digits x z = pick (ltb x (10 ^ 15)) (Some (record { sig = x; zeros = z })) None
 
 -- a digit more that is not zero, behind sig and zeros
-unfoldable pub significant_pushed : ℕ → ℕ → ℕ → Mantissa
-significant_pushed sig zeros d = pick (leb 15 zeros) many_digits (few_digits (sig * 10 ^ (zeros + 1) + d) 0)
+unfoldable pub significant_pushed : ℕ → ℕ → ℕ → Option Mantissa
+significant_pushed sig zeros d = pick (leb 15 zeros) None (few_digits (sig * 10 ^ (zeros + 1) + d) 0)
 
 -- a digit more
-unfoldable pub digit_pushed : Mantissa → ℕ → Mantissa
-digit_pushed s d =
-    pick s.many s
-    (pick (eqb d 0)
-    (pick (eqb s.sig 0) s (record { sig = s.sig; zeros = counted (s.zeros + 1); many = false }))
-    (significant_pushed s.sig s.zeros d))
+unfoldable pub digit_pushed : Option Mantissa → ℕ → Option Mantissa
+digit_pushed None d = None
+digit_pushed (Some m) d =
+    pick (eqb d 0)
+    (pick (eqb m.sig 0) (Some m) (Some (record { sig = m.sig; zeros = counted (m.zeros + 1) })))
+    (significant_pushed m.sig m.zeros d)
 
 -- the bits, or none: question 17
-unfoldable pub bits_of : Decimal → Option ℕ
-bits_of (Bits b) = some b
-bits_of Unsupported = none
+unfoldable pub bits_of : Option ℕ → maybe.Option ℕ
+bits_of (Some b) = maybe.some b
+bits_of None = maybe.none
 
 -- the sign bit is free
-abbrev pub Unsigned : Decimal → Type 0
-Unsigned (Bits b) = b < 2 ^ 63
-Unsigned Unsupported = Unit {0}
+abbrev pub Unsigned : Option ℕ → Type 0
+Unsigned o = IfSome o (λ b. b < 2 ^ 63)
 
 -- m with zeros behind, of which so many digits stand behind the point, times ten to the e, or to the -e
-unfoldable pub powered_bits : ℕ → ℕ → ℕ → ℕ → Bool → Option ℕ
+unfoldable pub powered_bits : ℕ → ℕ → ℕ → ℕ → Bool → maybe.Option ℕ
 powered_bits m zeros behind e down = scaled_bits m (pick down 0 e + counted zeros) (counted behind + pick down e 0)
 
-unfoldable pub exponent_bits : ℕ → ℕ → ℕ → Bool → Val → Option ℕ
-exponent_bits m noughts behind down (Exact e) = powered_bits m noughts behind e down
-exponent_bits m noughts behind down Over = none
+unfoldable pub exponent_bits : ℕ → ℕ → ℕ → Bool → Option ℕ → maybe.Option ℕ
+exponent_bits m noughts behind down (Some e) = powered_bits m noughts behind e down
+exponent_bits m noughts behind down None = maybe.none
 
-unfoldable pub float_in : Mantissa → ℕ → Val → Bool → Option ℕ
-float_in s behind p down =
-    elim s.many [
-      | true ↦ none
-      | false ↦ elim (eqb s.sig 0) [ true ↦ some 0 | false ↦ exponent_bits s.sig s.zeros behind down p ]
-    ]
+unfoldable pub float_in : Option Mantissa → ℕ → Option ℕ → Bool → maybe.Option ℕ
+float_in None behind p down = maybe.none
+float_in (Some m) behind p down = elim (eqb m.sig 0) [ true ↦ maybe.some 0 | false ↦ exponent_bits m.sig m.zeros behind down p ]

@@ -6,21 +6,15 @@ use number_bits::ieee::UNIT64;
 
 pub mod mantissa; // mantissa.rt: the digits of a decimal, folded
 
-ghost use Rattle.std.specs.Prelude.{◌≡◌, ◌+◌, ◌-◌, ◌*◌, ◌/◌, ◌%◌, ◌^◌, ◌<◌, ◌≤◌};
+ghost use Rattle.std.specs.Prelude.{◌≡◌, ◌+◌, ◌*◌, ◌^◌, ◌<◌, ◌≤◌};
 ghost use Rattle.grammar.specs.Numbers.{rounded, nearest, scaled_bits};
-ghost use Rattle.number_decimals.specs.Decimals.{Doubled, Scaled, Product, Unsigned, bits_of, powered_bits, float_in};
+ghost use Rattle.number_decimals.specs.Decimals.{Doubled, Product, Scaled, Unsigned, bits_of, powered_bits, float_in};
 
 use crate::mantissa::{DIGITS_LIMIT, Mantissa, count};
-use number_bits::Val;
+use std::cmp::Ordering;
 
 // "times ten to the -22 up to 22"
 const POWER_LIMIT: u64 = 22;
-
-// An exponent from here on brings every number out of range: counts stop below it.
-const EXPONENT_LIMIT: u64 = 9223372036854775808;
-
-// Half of a significand, 2^26.
-const HALF: u64 = 67108864;
 
 // "A constant table of powers of five from 0 to 22".
 const POWERS: [u64; 23] = [
@@ -63,43 +57,57 @@ pub struct Parts {
     pub rest: u64,
 }
 
-// The parts of twice the number whose parts by d these are.
-fn doubled(q: u64, rest: u64, d: u64) -> Parts
-    requires { (q < 2 ^ 52) × (rest < d) × (d ≤ 2 ^ 52) }
-    ensures { Doubled q rest d result }
-{
-    let t = 2 * rest;
-    if t < d {
-        return Parts { q: 2 * q, rest: t };
+impl Parts {
+    // The parts of twice the number whose parts by d these are.
+    fn doubled(self, d: u64) -> Parts
+        requires { (self.q < 2 ^ 52) × (self.rest < d) × (d ≤ 2 ^ 52) }
+        ensures { Doubled self d result }
+    {
+        let t = 2 * self.rest;
+        if t < d {
+            return Parts {
+                q: 2 * self.q,
+                rest: t,
+            };
+        }
+        Parts {
+            q: 2 * self.q + 1,
+            rest: t - d,
+        }
     }
-    Parts {
-        q: 2 * q + 1,
-        rest: t - d,
+
+    // The quotient or one more, whichever is nearer, or the even one.
+    fn rounded(self, d: u64) -> u64
+        requires { (self.q < 2 ^ 53) × (self.rest < 2 ^ 52) }
+        ensures { (result ≡ rounded self.q self.rest d) × (result ≤ 2 ^ 53) }
+    {
+        match (2 * self.rest).cmp(&d) {
+            Ordering::Less => self.q,
+            Ordering::Equal => self.q + self.q % 2,
+            Ordering::Greater => self.q + 1,
+        }
     }
 }
 
+// A number's parts, with n bits behind the point.
 #[derive(Clone, Copy)]
 pub struct Significand {
-    pub q: u64,
-    pub rest: u64,
+    pub parts: Parts,
     pub n: u64,
 }
 
-// A number's quotient by d, with n bits behind the point, so that it has 53 bits.
-fn scaled(q0: u64, rest0: u64, d: u64) -> Significand
-    requires { (0 < q0 * d + rest0) × (q0 < 2 ^ 53) × (rest0 < d) × (d ≤ 2 ^ 52) }
-    ensures { Scaled (q0 * d + rest0) d result }
+// The parts by d, with so many bits behind the point that the quotient has 53.
+fn scaled(start: Parts, d: u64) -> Significand
+    requires { (0 < start.q * d + start.rest) × (start.q < 2 ^ 53) × (start.rest < d) × (d ≤ 2 ^ 52) }
+    ensures { Scaled (start.q * d + start.rest) d result }
 {
-    let mut q = q0;
-    let mut rest = rest0;
+    let mut parts = start;
     let mut n = 0;
-    while q < UNIT64 {
-        let p = doubled(q, rest, d);
-        q = p.q;
-        rest = p.rest;
+    while parts.q < UNIT64 {
+        parts = parts.doubled(d);
         n += 1;
     }
-    Significand { q, rest, n }
+    Significand { parts, n }
 }
 
 // The product of two numbers of 52 bits, in halves of 52 bits.
@@ -107,35 +115,12 @@ fn product(a: u64, b: u64) -> Parts
     requires { (a < 2 ^ 52) × (b < 2 ^ 52) }
     ensures { Product (a * b) result }
 {
-    let a1 = a / HALF;
-    let a0 = a % HALF;
-    let b1 = b / HALF;
-    let b0 = b % HALF;
-    let w = a0 * b0;
-    let t = a1 * b0 + w / HALF;
-    let u = t % HALF + a0 * b1;
+    let v = u128::from(a) * u128::from(b);
+    let unit = u128::from(UNIT64);
     Parts {
-        q: a1 * b1 + t / HALF + u / HALF,
-        rest: u % HALF * HALF + w % HALF,
+        q: (v / unit) as u64,
+        rest: (v % unit) as u64,
     }
-}
-
-// The quotient or one more, whichever is nearer, or the even one.
-fn rounding(q: u64, rest: u64, d: u64) -> u64
-    requires { (q < 2 ^ 53) × (rest < 2 ^ 52) }
-    ensures { (result ≡ rounded q rest d) × (result ≤ 2 ^ 53) }
-{
-    let t = 2 * rest;
-    if d < t {
-        return q + 1;
-    }
-    if t < d {
-        return q;
-    }
-    if q % 2 == 1 {
-        return q + 1;
-    }
-    q
 }
 
 // The binary64 nearest m times ten to the k.
@@ -143,9 +128,8 @@ fn nearest_up(m: u64, k: usize) -> u64
     requires { (0 < m) × (m < 10 ^ 15) × (k < 23) }
     ensures { (result ≡ nearest (m * 10 ^ k) 1) × (result < 2 ^ 63) }
 {
-    let p = product(m, five(k));
-    let s = scaled(p.q, p.rest, UNIT64);
-    (1126 + k as u64 - s.n) * UNIT64 + rounding(s.q, s.rest, UNIT64)
+    let s = scaled(product(m, five(k)), UNIT64);
+    (1126 + k as u64 - s.n) * UNIT64 + s.parts.rounded(UNIT64)
 }
 
 // The binary64 nearest m divided by ten to the k.
@@ -154,70 +138,50 @@ fn nearest_down(m: u64, k: usize) -> u64
     ensures { (result ≡ nearest m (10 ^ k)) × (result < 2 ^ 63) }
 {
     let d = five(k);
-    let s = scaled(m / d, m % d, d);
-    (1074 - k as u64 - s.n) * UNIT64 + rounding(s.q, s.rest, d)
+    let start = Parts {
+        q: m / d,
+        rest: m % d,
+    };
+    let s = scaled(start, d);
+    (1074 - k as u64 - s.n) * UNIT64 + s.parts.rounded(d)
 }
 
-// A decimal's bits, or question 17.
-#[derive(Clone, Copy)]
-pub enum Decimal {
-    Bits(u64),
-    Unsupported,
-}
-
-// m times ten to the up less down.
-fn scaled_bits(m: u64, up: u64, down: u64) -> Decimal
+// The bits of m times ten to the up less down, or `None`: question 17. The same for all below.
+fn scaled_bits(m: u64, up: u64, down: u64) -> Option<u64>
     requires { 0 < m }
     ensures { (bits_of result ≡ scaled_bits m up down) × Unsigned result }
 {
-    if DIGITS_LIMIT <= m {
-        return Decimal::Unsupported;
+    let k = up.abs_diff(down);
+    if DIGITS_LIMIT <= m || POWER_LIMIT < k {
+        return None;
     }
     if down <= up {
-        let k = up - down;
-        if POWER_LIMIT < k {
-            return Decimal::Unsupported;
-        }
-        return Decimal::Bits(nearest_up(m, k as usize));
+        return Some(nearest_up(m, k as usize));
     }
-    let k = down - up;
-    if POWER_LIMIT < k {
-        return Decimal::Unsupported;
-    }
-    Decimal::Bits(nearest_down(m, k as usize))
+    Some(nearest_down(m, k as usize))
 }
 
-// The same for an exponent of any size; counts above 2^62 count as that.
-fn powered(m: u64, zeros: u64, behind: u64, e: u64, down: bool) -> Decimal
-    requires { 0 < m }
-    ensures { (bits_of result ≡ powered_bits m zeros behind e down) × Unsigned result }
+// An exponent of any size; counts above 2^62 count as that. A sum that 64 bits do not hold is out of reach.
+fn powered(m: Mantissa, behind: u64, e: u64, down: bool) -> Option<u64>
+    requires { 0 < m.sig }
+    ensures { (bits_of result ≡ powered_bits m.sig m.zeros behind e down) × Unsigned result }
 {
-    let z = count(zeros);
+    let z = count(m.zeros);
     let b = count(behind);
-    if EXPONENT_LIMIT <= e {
-        return Decimal::Unsupported;
-    }
     if down {
-        return scaled_bits(m, z, b + e);
+        return scaled_bits(m.sig, z, b.checked_add(e)?);
     }
-    scaled_bits(m, e + z, b)
+    scaled_bits(m.sig, e.checked_add(z)?, b)
 }
 
 // The bits of a mantissa with so many digits behind its point, and an exponent. 01: "Supported: zero, or at most 15 digits without outer zeros,
 // times ten to the -22 up to 22."
-pub fn decimal_bits(s: Mantissa, behind: u64, p: Val, down: bool) -> Decimal
+pub fn decimal_bits(s: Option<Mantissa>, behind: u64, p: Option<u64>, down: bool) -> Option<u64>
     ensures { (bits_of result ≡ float_in s behind p down) × Unsigned result }
 {
-    if s.many {
-        return Decimal::Unsupported;
+    let m = s?;
+    if m.sig == 0 {
+        return Some(0);
     }
-    let sig = s.sig;
-    let zeros = s.zeros;
-    if sig == 0 {
-        return Decimal::Bits(0);
-    }
-    match p {
-        Val::Exact(e) => powered(sig, zeros, behind, e, down),
-        Val::Over => Decimal::Unsupported,
-    }
+    powered(m, behind, p?, down)
 }

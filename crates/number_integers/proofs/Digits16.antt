@@ -11,14 +11,14 @@ use lib.Arith.{digits_lt}
 use lib.Dec.{ltb, eqb, lit<, lit≤}
 use lib.ListN.{length}
 use borrow.Author.Tests.{lt-ltb, le-ltb, le-leb, lt-leb, ltb-true, ltb-false, eqb-true}
+use Rattle.std.proofs.Common.{Some, None}
 use Rattle.program.specs.Choice.{pick}
 use Rattle.program.specs.Class.{class_of, inside, is_hex}
 use Rattle.program.specs.Prog.{ret}
 use Rattle.grammar.specs.Lexer.{refuse}
-use Rattle.grammar.specs.Numbers.{hex_of, widen, float}
+use Rattle.grammar.specs.Numbers.{hex_of, widen}
 use Rattle.number_integers.specs.Hex.{hex_held, hex_pushed, hex_folded, all_hex}
-use Rattle.number_integers.specs.Literals.{given, hex_literal, f0x_literal}
-use Rattle.number_integers.specs.declared.literal.Literal.TheVariants.{Float, Refused}
+use Rattle.number_integers.specs.Literals.{bits_in, hex_literal, f0x_literal}
 use Rattle.number_integers.proofs.Folds.{and_left, and_right}
 
 more_small : (v n d : ℕ) → v < 16 ^ n → d < 16 → v * 16 + d < 16 ^ (n + 1)
@@ -69,42 +69,42 @@ from_nothing : (w : List ℕ) → all_hex w ≡ true → hex_folded (hex_held 0 
 from_nothing w a = hex_value_lem w 0 0 a (lit< tt) ∙ ap (hex_held (hex_of 0 w)) (zero-add (length w))
 
 -- behind `0x`
-taken_hex : (v n : ℕ) → given (hex_literal (hex_held v n)) ≡ elim (inside 1 16 n) [ true ↦ ret (float v) | false ↦ refuse 7 ]
-unfolding given hex_literal hex_held
+taken_hex : (v n : ℕ) → bits_in (hex_literal (hex_held v n)) ≡ elim (inside 1 16 n) [ true ↦ ret v | false ↦ refuse 7 ]
+unfolding bits_in hex_literal hex_held
 taken_hex v n = go (ltb n 17) refl
   where
-    most : (t : Bool) → given (pick t (Float v) (Refused 7)) ≡ elim t [ true ↦ ret (float v) | false ↦ refuse 7 ]
+    most : (t : Bool) → bits_in (pick t (Some v) None) ≡ elim t [ true ↦ ret v | false ↦ refuse 7 ]
     most true = refl
     most false = refl
 
-    go : (t : Bool) → ltb n 17 ≡ t → given (hex_literal (hex_held v n)) ≡ elim (inside 1 16 n) [ true ↦ ret (float v) | false ↦ refuse 7 ]
+    go : (t : Bool) → ltb n 17 ≡ t → bits_in (hex_literal (hex_held v n)) ≡ elim (inside 1 16 n) [ true ↦ ret v | false ↦ refuse 7 ]
     go true e = simp e (most (inside 1 16 n))
     go false e = simp (e, lt-leb n 16 (ltb-false n 17 e), le-leb 1 n (le_trans (lit≤ tt) (ltb-false n 17 e)))
 
 pub hex_literal_lem : (w : List ℕ) → all_hex w ≡ true →
-    given (hex_literal (hex_folded (hex_held 0 0) w)) ≡ elim (inside 1 16 (length w)) [ true ↦ ret (float (hex_of 0 w)) | false ↦ refuse 7 ]
-hex_literal_lem w a = ap (λ h. given (hex_literal h)) (from_nothing w a) ∙ taken_hex (hex_of 0 w) (length w)
+    bits_in (hex_literal (hex_folded (hex_held 0 0) w)) ≡ elim (inside 1 16 (length w)) [ true ↦ ret (hex_of 0 w) | false ↦ refuse 7 ]
+hex_literal_lem w a = ap (λ h. bits_in (hex_literal h)) (from_nothing w a) ∙ taken_hex (hex_of 0 w) (length w)
 
 -- behind `f0x`
 taken_f0x : (v n : ℕ) → (n ≡ 8 → v < 2 ^ 32) →
-    given (f0x_literal (hex_held v n)) ≡ elim (eqb n 8) [ true ↦ ret (float (widen v)) | false ↦ elim (eqb n 16) [ true ↦ ret (float v) | false ↦ refuse 7 ] ]
-unfolding given f0x_literal hex_held
+    bits_in (f0x_literal (hex_held v n)) ≡ elim (eqb n 8) [ true ↦ ret (widen v) | false ↦ elim (eqb n 16) [ true ↦ ret v | false ↦ refuse 7 ] ]
+unfolding bits_in f0x_literal hex_held
 taken_f0x v n h = go (eqb n 8) refl (eqb n 16) refl
   where
     go : (t : Bool) → eqb n 8 ≡ t → (u : Bool) → eqb n 16 ≡ u →
-        given (f0x_literal (hex_held v n)) ≡ elim (eqb n 8) [ true ↦ ret (float (widen v)) | false ↦ elim (eqb n 16) [ true ↦ ret (float v) | false ↦ refuse 7 ] ]
+        bits_in (f0x_literal (hex_held v n)) ≡ elim (eqb n 8) [ true ↦ ret (widen v) | false ↦ elim (eqb n 16) [ true ↦ ret v | false ↦ refuse 7 ] ]
     go true e u f = let k = eqb-true n 8 e in rw (k, mod-eq_of_lt (h k))
     go false e true f = let k = eqb-true n 16 f in simp (lt-ltb n 17 (omega arith), e, f)
     go false e false f = long (ltb n 17) refl
       where
         long : (t : Bool) → ltb n 17 ≡ t →
-            given (f0x_literal (hex_held v n)) ≡ elim (eqb n 8) [ true ↦ ret (float (widen v)) | false ↦ elim (eqb n 16) [ true ↦ ret (float v) | false ↦ refuse 7 ] ]
+            bits_in (f0x_literal (hex_held v n)) ≡ elim (eqb n 8) [ true ↦ ret (widen v) | false ↦ elim (eqb n 16) [ true ↦ ret v | false ↦ refuse 7 ] ]
         long true g = simp (g, e, f)
         long false g = simp (g, e, f)
 
 pub f0x_literal_lem : (w : List ℕ) → all_hex w ≡ true →
-    given (f0x_literal (hex_folded (hex_held 0 0) w)) ≡
-    elim (eqb (length w) 8) [ true ↦ ret (float (widen (hex_of 0 w))) | false ↦ elim (eqb (length w) 16) [ true ↦ ret (float (hex_of 0 w)) | false ↦ refuse 7 ] ]
+    bits_in (f0x_literal (hex_folded (hex_held 0 0) w)) ≡
+    elim (eqb (length w) 8) [ true ↦ ret (widen (hex_of 0 w)) | false ↦ elim (eqb (length w) 16) [ true ↦ ret (hex_of 0 w) | false ↦ refuse 7 ] ]
 f0x_literal_lem w a =
-    ap (λ h. given (f0x_literal h)) (from_nothing w a)
+    ap (λ h. bits_in (f0x_literal h)) (from_nothing w a)
     ∙ taken_f0x (hex_of 0 w) (length w) (λ e. subst (λ (n : ℕ). hex_of 0 w < 16 ^ n) (zero-add (length w) ∙ e) (hex_small w 0 0 a (lit< tt)))

@@ -1,5 +1,5 @@
 pub mod Digits16
 pub mod Folds
-pub mod Halves
+pub mod Magnitudes
 pub mod Scans
 pub mod Widen

@@ -4,9 +4,8 @@ ghost use Rattle.grammar.specs.Numbers.{widen, special_bits, subnormal_bits};
 ghost use Rattle.number_integers.specs.Hex.{hex_held, hex_pushed};
 
 use number_bits::ieee::{BIAS, INFINITY64, MOVED, QUIET32, SIGN32, SIGN64, TOP32, UNIT32, UNIT64};
-use number_bits::wide;
 
-// Up to 16 hex digits, and how many; where there are more, 0 and 17.
+// Up to 16 hex digits, and how many. Where there are more there is `None`.
 #[derive(Clone, Copy)]
 pub struct Hex {
     pub bits: u64,
@@ -14,31 +13,24 @@ pub struct Hex {
 }
 
 // Before the first digit.
-pub fn no_hex() -> Hex
+pub fn no_hex() -> Option<Hex>
     ensures { result ≡ hex_held 0 0 }
 {
-    Hex { bits: 0, count: 0 }
+    Some(Hex { bits: 0, count: 0 })
 }
 
-// A digit more.
-pub fn push_hex(h: Hex, d: u8) -> Hex
+// A digit more. What is below 2^60 has room for it.
+pub fn push_hex(h: Option<Hex>, d: u8) -> Option<Hex>
     ensures { result ≡ hex_pushed h d }
 {
-    let bits = h.bits;
-    let count = h.count;
-    if count < 16 {
-        return Hex {
-            bits: bits % 1152921504606846976 * 16 + wide(d) % 16,
-            count: count + 1,
-        };
+    let h = h?;
+    if h.count < 16 {
+        return Some(Hex {
+            bits: h.bits % 1152921504606846976 * 16 + u64::from(d) % 16,
+            count: h.count + 1,
+        });
     }
-    Hex { bits: 0, count: 17 }
-}
-
-fn wide32(x: u32) -> u64
-    ensures { result ≡ x }
-{
-    x as u64
+    None
 }
 
 // "In widening, a subnormal is shifted by its count of leading zeros."
@@ -46,8 +38,8 @@ fn subnormal(f: u32) -> u64
     requires { (0 < f) × (f < 2 ^ 23) }
     ensures { (result ≡ subnormal_bits f) × (result < 2 ^ 63) }
 {
-    let z = u32::leading_zeros(f);
-    (904 - wide32(z)) * UNIT64 + (wide32(f) << (z + 21))
+    let z = f.leading_zeros();
+    (904 - u64::from(z)) * UNIT64 + (u64::from(f) << (z + 21))
 }
 
 // Infinity and NaN without their sign. "A NaN keeps its payload with the quiet bit set."
@@ -68,11 +60,11 @@ fn special(f: u64) -> u64
 pub fn widen_bits(b: u32) -> u64
     ensures { result ≡ widen b }
 {
-    let s = wide32(b / SIGN32) * SIGN64;
-    let e = wide32(b / UNIT32 % 256);
+    let s = u64::from(b / SIGN32) * SIGN64;
+    let e = u64::from(b / UNIT32 % 256);
     let f = b % UNIT32;
     if e == TOP32 {
-        return s + special(wide32(f));
+        return s + special(u64::from(f));
     }
     if e == 0 {
         if f == 0 {
@@ -80,5 +72,5 @@ pub fn widen_bits(b: u32) -> u64
         }
         return s + subnormal(f);
     }
-    s + ((e + BIAS) * UNIT64 + wide32(f) * MOVED)
+    s + ((e + BIAS) * UNIT64 + u64::from(f) * MOVED)
 }

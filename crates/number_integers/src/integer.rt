@@ -1,143 +1,38 @@
-// Integers of 128 bits in two halves. 01, question 7: "an integer within signed 128 bits".
-ghost use Rattle.std.specs.Prelude.{◌≡◌, true, ◌+◌, ◌*◌, ◌/◌, ◌%◌, ◌^◌, leb};
+// Integers of 128 bits. 01, question 7: "an integer within signed 128 bits". `None` is a whole number that 128 bits do not hold.
+ghost use Rattle.std.specs.Prelude.{◌≡◌};
 ghost use Rattle.grammar.specs.Numbers.{largest, twos};
-ghost use Rattle.number_integers.specs.Integers.{magnitude_of, pushed, signed_of};
-
-use number_bits::wide;
-
-// A magnitude whose high word is below it, 2^63, is that of a signed number of 128 bits.
-const HIGH_LIMIT: u64 = 9223372036854775808;
+ghost use Rattle.number_integers.specs.Integers.{pushed, signed_of};
 
 // Ten times a number below it, 2^60, and a digit fit 64 bits.
 pub const TENFOLD_LIMIT: u64 = 1152921504606846976;
 
-// A whole number below 2^128. Where `over`, one that is not below, and both halves are 0.
-#[derive(Clone, Copy)]
-pub struct Magnitude {
-    pub hi: u64,
-    pub lo: u64,
-    pub over: bool,
-}
-
-// An integer's two words, "two's complement of 128 bits, high first", or question 7.
-#[derive(Clone, Copy)]
-pub enum Integer {
-    Value(u64, u64),
-    Refused,
-}
-
-// Before the first digit.
-pub fn nothing() -> Magnitude
-    ensures { result ≡ magnitude_of 0 }
-{
-    Magnitude {
-        hi: 0,
-        lo: 0,
-        over: false,
-    }
-}
-
-// Ten times the number, and a digit more.
-fn carried(hi: u64, lo: u64, d: u8) -> Magnitude
-    ensures { result ≡ magnitude_of ((hi * 2 ^ 64 + lo) * 10 + d) }
-{
-    let t0 = lo % records::HALF * 10 + wide(d);
-    let t1 = lo / records::HALF * 10 + t0 / records::HALF;
-    let carry = t1 / records::HALF;
-    if (records::NUMBER_LIMIT - carry) / 10 < hi {
-        return Magnitude {
-            hi: 0,
-            lo: 0,
-            over: true,
-        };
-    }
-    Magnitude {
-        hi: hi * 10 + carry,
-        lo: t1 % records::HALF * records::HALF + t0 % records::HALF,
-        over: false,
-    }
-}
+// The lowest signed number of 128 bits without its sign, 2^127.
+const LOWEST: u128 = 170141183460469231731687303715884105728;
 
 // A digit more.
-pub fn push(a: Magnitude, d: u8) -> Magnitude
+pub fn push(a: Option<u128>, d: u8) -> Option<u128>
     ensures { result ≡ pushed a d }
 {
-    if a.over {
-        return a;
-    }
-    let hi = a.hi;
-    let lo = a.lo;
-    if hi == 0 {
-        if lo < TENFOLD_LIMIT {
-            return Magnitude {
-                hi: 0,
-                lo: lo * 10 + wide(d),
-                over: false,
-            };
-        }
-    }
-    carried(hi, lo, d)
+    a?.checked_mul(10)?.checked_add(u128::from(d))
 }
 
-// Is it the magnitude of a signed number of 128 bits?
-fn in_range(hi: u64, lo: u64, neg: bool) -> bool
-    ensures { result ≡ leb (hi * 2 ^ 64 + lo) (largest neg) }
+// The largest magnitude of a signed number of 128 bits.
+fn largest(neg: bool) -> u128
+    ensures { result ≡ largest neg }
 {
-    if hi < HIGH_LIMIT {
-        return true;
-    }
-    if neg {
-        if hi == HIGH_LIMIT {
-            if lo == 0 {
-                return true;
-            }
-            return false;
-        }
-        return false;
-    }
-    false
+    if neg { LOWEST } else { LOWEST - 1 }
 }
 
-#[derive(Clone, Copy)]
-struct Words {
-    hi: u64,
-    lo: u64,
-}
-
-// The two's complement.
-fn negated(hi: u64, lo: u64) -> Words
-    ensures { (result.hi ≡ twos true (hi * 2 ^ 64 + lo) / 2 ^ 64) × (result.lo ≡ twos true (hi * 2 ^ 64 + lo) % 2 ^ 64) }
-{
-    if lo != 0 {
-        return Words {
-            hi: records::NUMBER_LIMIT - hi,
-            lo: records::NUMBER_LIMIT - lo + 1,
-        };
-    }
-    if hi != 0 {
-        return Words {
-            hi: records::NUMBER_LIMIT - hi + 1,
-            lo: 0,
-        };
-    }
-    Words { hi: 0, lo: 0 }
-}
-
-// The number with its sign.
-pub fn signed(a: Magnitude, neg: bool) -> Integer
+// The number with its sign, "two's complement of 128 bits", or `None`: question 7.
+pub fn signed(a: Option<u128>, neg: bool) -> Option<u128>
     ensures { result ≡ signed_of neg a }
 {
-    if a.over {
-        return Integer::Refused;
+    let v = a?;
+    if largest(neg) < v {
+        return None;
     }
-    let hi = a.hi;
-    let lo = a.lo;
-    if in_range(hi, lo, neg) {
-        if neg {
-            let n = negated(hi, lo);
-            return Integer::Value(n.hi, n.lo);
-        }
-        return Integer::Value(hi, lo);
+    if neg {
+        return Some(v.wrapping_neg());
     }
-    Integer::Refused
+    Some(v)
 }

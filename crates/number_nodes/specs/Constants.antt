@@ -1,6 +1,6 @@
 -- What the reader of numeric constants holds of its program.
 -- Assumes nothing.
-use Rattle.std.specs.Prelude.{◌≡◌, Bool, true, false, List, [], ℕ}
+use Rattle.std.specs.Prelude.{false, true, List, [], ℕ, Option, MatchOption}
 use Rattle.program.specs.Bytes.{bytes}
 use Rattle.program.specs.Prog.{Prog, ◌>>=◌}
 use Rattle.grammar.specs.Numbers.{parse_hex_float, parse_f0x}
@@ -25,7 +25,14 @@ minus_value = prefix_if (bytes "inf") (float_node 0xFFF0_0000_0000_0000) (numera
 abbrev pub digit_value : Prog (List ℕ)
 digit_value = prefix_if (bytes "0x") hex_value (prefix_if (bytes "0X") hex_value (numeral false))
 
--- a numeric constant is read, or there is none and the program goes on as it would here
-pub record NumericVal (text : List ℕ) (p : Parsed) (words : List ℕ) (p' : Parsed) (hit : Bool) (words' : List ℕ) : Type 0 where
-  pub yes : hit ≡ true → (g : Prog (List ℕ)) → Leads (numeric_or g) 0 [] (made same text p) text p p words p' words'
-  pub no : hit ≡ false → (g : Prog (List ℕ)) {q : Parsed} {v : List ℕ} → Leads g 0 [] (made same text p) text p p words' q v → Leads (numeric_or g) 0 [] (made same text p) text p p words q v
+-- a numeric constant is read
+abbrev pub IsRead : List ℕ → Parsed → List ℕ → Parsed → List ℕ → Type 0
+IsRead text p words p' words' = (g : Prog (List ℕ)) → Leads (numeric_or g) 0 [] (made same text p) text p p words p' words'
+
+-- there is none, and the program goes on as it would here
+pub record IsNone (text : List ℕ) (p : Parsed) (words words' : List ℕ) : Type 0 where
+  pub on : (g : Prog (List ℕ)) {q : Parsed} {v : List ℕ} → Leads g 0 [] (made same text p) text p p words' q v → Leads (numeric_or g) 0 [] (made same text p) text p p words q v
+
+-- one or the other
+abbrev pub NumericVal : List ℕ → Parsed → List ℕ → Option Parsed → List ℕ → Type 0
+NumericVal text p words r words' = MatchOption r (IsNone text p words words') (λ p'. IsRead text p words p' words')

@@ -2,7 +2,6 @@
 ghost use Rattle.lexer.specs.Reads.{Reads};
 ghost use Rattle.number_nodes.specs.Constants.{plus_value, minus_value, digit_value, NumericVal};
 
-use crate::Hit;
 use crate::nodes::{float_node, hex_value, numeral};
 use lexer::tests::{digit, starts};
 use lexer::{Parsed, looks, pass, pass_word};
@@ -49,22 +48,19 @@ fn digit_value(text: &[u8], words: &mut [u64], p: Parsed) -> Parsed
 }
 
 // A numeric constant, if there is one. Most begin with a digit, which is tested first.
-pub fn numeric(text: &[u8], words: &mut [u64], p: Parsed) -> Hit
-    ensures { NumericVal text.now p words.old result.p result.hit words.new }
+pub fn numeric(text: &[u8], words: &mut [u64], p: Parsed) -> Option<Parsed>
+    ensures { NumericVal text.now p words.old result words.new }
 {
     if digit(text, p) {
-        let r = digit_value(text, words, p);
-        return Hit { p: r, hit: true };
+        return Some(digit_value(text, words, p));
     }
     if looks(text, p, b'-') {
         let q = pass(text, p, 1);
-        let r = minus_value(text, words, q);
-        return Hit { p: r, hit: true };
+        return Some(minus_value(text, words, q));
     }
     if looks(text, p, b'+') {
         let q = pass(text, p, 1);
-        let r = plus_value(text, words, q);
-        return Hit { p: r, hit: true };
+        return Some(plus_value(text, words, q));
     }
-    Hit { p, hit: false }
+    None
 }

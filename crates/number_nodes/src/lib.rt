@@ -5,12 +5,4 @@ pub mod constants; // constants.rt: a numeric constant, or none
 pub mod nodes; // nodes.rt: a literal as its node
 
 pub use constants::numeric;
-use lexer::Parsed;
 pub use nodes::{f0x_value, float_node, hex_value, int_node, numeral};
-
-// Whether it was there, and where the reader is.
-#[derive(Clone, Copy)]
-pub struct Hit {
-    pub p: Parsed,
-    pub hit: bool,
-}

@@ -1,5 +1,5 @@
 -- The numbers of a numeral's state stay in their bounds: figures below 10^15, counts up to 2^62. The other fields are a phase, flags and words of 64
--- bits, so the state's size does not depend on the numeral.
+-- and 128 bits, so the state's size does not depend on the numeral.
 -- Assumes nothing.
 use mathlib.Core.Path.{◌≡◌, refl}
 use mathlib.Core.Bool.{Bool, true, false}
@@ -8,10 +8,12 @@ use mathlib.Core.Option.{Option, none, some}
 use Prim.Native.Nat.{ℕ, ◌+◌, ◌*◌, ◌^◌, ◌<◌, ◌≤◌}
 use lib.Dec.{ltb, leb, eqb, lit<, lit≤}
 use borrow.Author.Tests.{ltb-true, leb-true}
+use Rattle.std.proofs.Common.{Option as Maybe, Some, None}
+use Rattle.std.specs.Prelude.{IfSome}
 use Rattle.program.specs.Bytes.{byte}
 use Rattle.program.specs.Choice.{pick}
 use Rattle.program.specs.Class.{class_of}
-use Rattle.number_decimals.specs.Decimals.{counted, many_digits, few_digits, significant_pushed, digit_pushed}
+use Rattle.number_decimals.specs.Decimals.{counted, few_digits, significant_pushed, digit_pushed}
 use Rattle.number_decimals.specs.declared.mantissa.Mantissa.{Mantissa}
 use Rattle.number_numerals.specs.Numerals.{started, sign_passed, in_phase, whole_pushed, part_pushed, power_signed, power_pushed, next_phase, pushed_in, taken_in, takes, onward}
 use Rattle.number_numerals.specs.declared.folds.Phase.{Phase}
@@ -22,8 +24,11 @@ pub record Figures (m : Mantissa) : Type 0 where
   pub sig : m.sig < 10 ^ 15
   pub zeros : m.zeros ≤ 2 ^ 62
 
+abbrev pub Held : Maybe Mantissa → Type 0
+Held m = IfSome m Figures
+
 pub record Bounds (s : Fold) : Type 0 where
-  pub figures : Figures s.mantissa
+  pub figures : Held s.mantissa
   pub behind : s.behind ≤ 2 ^ 62
 
 counted_in : (n : ℕ) → counted n ≤ 2 ^ 62
@@ -39,24 +44,21 @@ one_of : {A : Type 0} (P : A → Type 0) (t : Bool) {a b : A} → P a → P b �
 one_of P true x y = x
 one_of P false x y = y
 
-many_in : Figures many_digits
-many_in = record { sig = lit< tt; zeros = lit≤ tt }
-
-few_in : (x z : ℕ) → z ≤ 2 ^ 62 → Figures (few_digits x z)
+few_in : (x z : ℕ) → z ≤ 2 ^ 62 → Held (few_digits x z)
 unfolding few_digits
 few_in x z h = go (ltb x (10 ^ 15)) refl
   where
-    go : (t : Bool) → ltb x (10 ^ 15) ≡ t → Figures (pick t (record { sig = x; zeros = z; many = false }) many_digits)
+    go : (t : Bool) → ltb x (10 ^ 15) ≡ t → Held (pick t (Some (record { sig = x; zeros = z })) None)
     go true e = record { sig = ltb-true x (10 ^ 15) e; zeros = h }
-    go false e = many_in
+    go false e = tt
 
-digit_in : (m : Mantissa) (d : ℕ) → Figures m → Figures (digit_pushed m d)
+digit_in : (m : Maybe Mantissa) (d : ℕ) → Held m → Held (digit_pushed m d)
 unfolding digit_pushed significant_pushed
-digit_in m d f =
-    one_of Figures m.many f
-    (one_of Figures (eqb d 0)
-    (one_of Figures (eqb m.sig 0) f (record { sig = f.sig; zeros = counted_in (m.zeros + 1) }))
-    (one_of Figures (leb 15 m.zeros) many_in (few_in (m.sig * 10 ^ (m.zeros + 1) + d) 0 (lit≤ tt))))
+digit_in None d f = tt
+digit_in (Some m) d f =
+    one_of Held (eqb d 0)
+    (one_of Held (eqb m.sig 0) f (record { sig = f.sig; zeros = counted_in (m.zeros + 1) }))
+    (one_of Held (leb 15 m.zeros) tt (few_in (m.sig * 10 ^ (m.zeros + 1) + d) 0 (lit≤ tt)))
 
 -- a byte more
 pushed_in_lem : (f : Phase) (s : Fold) (x : ℕ) → Bounds s → Bounds (pushed_in f s x)

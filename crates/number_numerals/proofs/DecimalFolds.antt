@@ -13,6 +13,7 @@ use lib.Dec.{ltb, leb, eqb, lit<, lit≤}
 use lib.ListN.{length}
 use lib.Pow.{pow-add}
 use borrow.Author.Tests.{le-ltb, le-leb, eq-eqb, ne_eqb, ltb-true, ltb-false, leb-true, leb-false, eqb-true, eqb-false}
+use Rattle.std.proofs.Common.{Option, Some}
 use Rattle.program.specs.Bytes.{byte}
 use Rattle.program.specs.Choice.{pick}
 use Rattle.program.specs.Class.{class_of, is_digit}
@@ -22,7 +23,6 @@ use Rattle.number_decimals.specs.Decimals.{counted, no_digits, few_digits, signi
 use Rattle.number_integers.specs.Folds.{folded, all_digits}
 use Rattle.number_bits.specs.Number.{capped, shifted}
 use Rattle.number_decimals.specs.declared.mantissa.Mantissa.{Mantissa}
-use Rattle.number_bits.specs.declared.Val.{Val}
 use Rattle.number_integers.proofs.Folds.{and_left, and_right}
 use Rattle.number_numerals.proofs.IntegerFolds.{number_value}
 use Rattle.number_decimals.proofs.Scale.{counted_same, counted_most, no_digits_lem, no_high, no_low}
@@ -42,14 +42,14 @@ zeros_are (suc u) m x (suc z) e n h =
     (ap suc (zeros_are u (m / 10) x z (ap (λ (y : ℕ). y / 10) f ∙ mul-div_cancel (x * 10 ^ z) (lit< tt)) n (le_of_suc-le-suc h)))
 
 -- The state s of the digits of m: none but zeros, or those of x and z zeros behind.
-pub record Ends (s : Mantissa) (m : ℕ) : Type 0 where
+pub record Ends (s : Option Mantissa) (m : ℕ) : Type 0 where
   pub x : ℕ
   pub z : ℕ
   pub state : s ≡ few_digits x (counted z)
   pub value : m ≡ x * 10 ^ z
   pub ends : x % 10 ≡ 0 → ⊥
 
-abbrev pub Holds : Mantissa → ℕ → Type 0
+abbrev pub Holds : Option Mantissa → ℕ → Type 0
 Holds s m = ((s ≡ no_digits) × (m ≡ 0)) ⊎ Ends s m
 
 not_zero : (x : ℕ) → (x % 10 ≡ 0 → ⊥) → x ≡ 0 → ⊥
@@ -129,7 +129,7 @@ stays : digit_pushed no_digits 0 ≡ no_digits
 unfolding digit_pushed
 stays = refl
 
-pub holds_more : (s : Mantissa) (m d : ℕ) → d < 10 → Holds s m → Holds (digit_pushed s d) (m * 10 + d)
+pub holds_more : (s : Option Mantissa) (m d : ℕ) → d < 10 → Holds s m → Holds (digit_pushed s d) (m * 10 + d)
 holds_more s m d h a = go (eqb d 0) refl a
   where
     go : (t : Bool) → eqb d 0 ≡ t → Holds s m → Holds (digit_pushed s d) (m * 10 + d)
@@ -179,12 +179,12 @@ rest_of : (x : ℕ) (r : List ℕ) → all_digits (x ∷ r) ≡ true → all_dig
 unfolding all_digits
 rest_of x r a = and_right (is_digit x || eqb x (byte "_")) (all_digits r) a
 
-pub holds_digits : (w : List ℕ) (s : Mantissa) (m : ℕ) → all_digits w ≡ true → Holds s m → Holds (folded digit_pushed s w) (value_of m w)
+pub holds_digits : (w : List ℕ) (s : Option Mantissa) (m : ℕ) → all_digits w ≡ true → Holds s m → Holds (folded digit_pushed s w) (value_of m w)
 unfolding folded value_of
 holds_digits [] s m a h = h
 holds_digits (x ∷ r) s m a h = go (eqb x (byte "_")) refl (λ t n k. holds_digits r t n (rest_of x r a) k)
   where
-    go : (t : Bool) → eqb x (byte "_") ≡ t → ((t : Mantissa) (n : ℕ) → Holds t n → Holds (folded digit_pushed t r) (value_of n r)) →
+    go : (t : Bool) → eqb x (byte "_") ≡ t → ((t : Option Mantissa) (n : ℕ) → Holds t n → Holds (folded digit_pushed t r) (value_of n r)) →
         Holds (folded digit_pushed s (x ∷ r)) (value_of m (x ∷ r))
     go true e ih = simp e (ih s m h)
     go false e ih = simp e (ih (digit_pushed s (class_of x)) (m * 10 + class_of x) (holds_more s m (class_of x) (digit_of x r a e) h))
@@ -235,7 +235,7 @@ count_small (x ∷ r) = go (eqb x (byte "_")) (count_small r)
 tens_cancel : {a b : ℕ} → 10 ^ a < 10 ^ b → a < b
 tens_cancel h = lt_of_not-le (λ g. not-le_of_lt h (pow-le-pow_right {n = 10} (lit< tt) g))
 
-module _ (s : Mantissa) (m u : ℕ) (h : Ends s m) (small : m < 10 ^ u) where
+module _ (s : Option Mantissa) (m u : ℕ) (h : Ends s m) (small : m < 10 ^ u) where
   tens_in : 10 ^ h.z ≤ m
   tens_in = subst (λ (y : ℕ). 10 ^ h.z ≤ y) (sym h.value) (subst (λ (y : ℕ). y ≤ h.x * 10 ^ h.z) (one-mul (10 ^ h.z)) (mul-le-mul_right (10 ^ h.z) (pos_of_lem h.x (not_zero h.x h.ends))))
 
@@ -270,7 +270,7 @@ module _ (x z p e : ℕ) (n : x % 10 ≡ 0 → ⊥) (few : z ≤ 2 ^ 62) (part :
       go true f = simp (f, twice z few, twice p part)
       go false f = simp f (out_of_reach down (leb-false e number_limit f))
 
-  held : (down : Bool) → float_in (record { sig = x; zeros = counted z; many = false }) (counted p) (capped e) down ≡ exponent_bits x (counted z) (counted p) down (capped e)
+  held : (down : Bool) → float_in (Some (record { sig = x; zeros = counted z })) (counted p) (capped e) down ≡ exponent_bits x (counted z) (counted p) down (capped e)
   unfolding float_in
   held down = rw (float_in, ne_eqb x 0 (not_zero x n))
 
@@ -282,13 +282,13 @@ module _ (x z p e : ℕ) (n : x % 10 ≡ 0 → ⊥) (few : z ≤ 2 ^ 62) (part :
       go true f = rw (few_digits, f) (held down ∙ reached down)
       go false f = rw (few_digits, f) (sym (no_digits_lem x (pick down 0 e + z) (p + pick down e 0) (ltb-false x (10 ^ 15) f)))
 
-pub float_held : (s : Mantissa) (m u p e : ℕ) (down : Bool) → Holds s m → m < 10 ^ u → u ≤ 2 ^ 62 → p ≤ 2 ^ 62 →
+pub float_held : (s : Option Mantissa) (m u p e : ℕ) (down : Bool) → Holds s m → m < 10 ^ u → u ≤ 2 ^ 62 → p ≤ 2 ^ 62 →
     float_in s (counted p) (capped e) down ≡ decimal_bits u m (pick down 0 e) (p + pick down e 0)
 unfolding float_in decimal_bits
 float_held s m u p e down (inl h) small few part = rw (h.0, h.1)
 float_held s m u p e down (inr h) small few part =
     let k = zeros_few s m u h small in
-    ap (λ (t : Mantissa). float_in t (counted p) (capped e) down) h.state
+    ap (λ (t : Option Mantissa). float_in t (counted p) (capped e) down) h.state
     ∙ seen h.x h.z p e h.ends (omega arith) part down
     ∙ sym (stripped s m u h small (pick down 0 e) (p + pick down e 0))
 
@@ -302,7 +302,7 @@ digits_small w f a b =
     next_le x y h = omega arith
 
 -- a numeral's digits, folded
-abbrev pub mantissa_of : Numeral → Mantissa
+abbrev pub mantissa_of : Numeral → Option Mantissa
 mantissa_of n = folded digit_pushed (folded digit_pushed no_digits n.whole) n.part
 
 abbrev pub behind_of : Numeral → ℕ
@@ -314,7 +314,7 @@ unfolding float_of digits_of up_of down_of
 float_right n a b l =
     let w = n.whole in
     let f = n.part in
-    ap₂ (λ (x : ℕ) (y : Val). float_in (mantissa_of n) x y n.down) (none_yet ∙ count_digits_lem f 0 ∙ ap counted (zero-add (count_digits f))) (number_value n.power 0)
+    ap₂ (λ (x : ℕ) (y : Option ℕ). float_in (mantissa_of n) x y n.down) (none_yet ∙ count_digits_lem f 0 ∙ ap counted (zero-add (count_digits f))) (number_value n.power 0)
     ∙ float_held (mantissa_of n) (value_of (value_of 0 w) f) (length w + length f) (count_digits f) (value_of 0 n.power) n.down
     (holds_digits f (folded digit_pushed no_digits w) (value_of 0 w) b (holds_digits w no_digits 0 a (inl (refl, refl))))
     (digits_small w f a b) l (le_trans (count_small f) (le_trans (in_sum (length w) (length f)) l))

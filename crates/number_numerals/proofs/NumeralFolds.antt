@@ -9,6 +9,7 @@ use native.Mathlib.Omega.{arith}
 use lib.Dec.{leb, eqb}
 use lib.ListN.{length}
 use borrow.Author.Tests.{eqb-true}
+use Rattle.std.proofs.Common.{Option as Maybe, Some, None, Err}
 use Rattle.program.specs.Bytes.{byte}
 use Rattle.program.specs.Choice.{pick}
 use Rattle.program.specs.Class.{class_of, is_digit}
@@ -17,14 +18,10 @@ use Rattle.grammar.specs.Lexer.{refuse, is_empty}
 use Rattle.grammar.specs.Numbers.{Numeral, value_of, largest, twos, halves, is_float, is_valid, float_of, signed, int, float, integer_of, decimal_of, literal_of}
 use Rattle.number_decimals.specs.Decimals.{counted, digit_pushed}
 use Rattle.number_integers.specs.Folds.{folded, all_digits, begins}
-use Rattle.number_integers.specs.Integers.{magnitude_of, pushed, signed_of, words_of}
+use Rattle.number_integers.specs.Integers.{magnitude_of, pushed, signed_of}
 use Rattle.number_bits.specs.Number.{capped, shifted}
 use Rattle.number_integers.specs.Literals.{given}
 use Rattle.number_numerals.specs.Numerals.{started, sign_passed, in_phase, whole_pushed, part_pushed, power_signed, power_pushed, float_literal, decimal_in, words_literal, integer_in, literal_at, literal_in}
-use Rattle.number_integers.specs.declared.integer.Integer.TheVariants.{Refused as Out}
-use Rattle.number_integers.specs.declared.integer.Integer.{Integer}
-use Rattle.number_integers.specs.declared.integer.Magnitude.{Magnitude}
-use Rattle.number_integers.specs.declared.literal.Literal.TheVariants.{Refused}
 use Rattle.number_numerals.specs.declared.folds.Phase.{Phase}
 use Rattle.number_numerals.specs.declared.folds.Phase.TheVariants.{Front, Whole, Point, Behind, Letter, Sign, Power}
 use Rattle.number_numerals.specs.declared.folds.Fold.{Fold}
@@ -230,17 +227,17 @@ given_float neg none = refl
 given_words : (neg : Bool) (v : ℕ) →
     given (words_literal (signed_of neg (magnitude_of v))) ≡ elim (leb v (largest neg)) [ true ↦ ret (int (halves (twos neg v))) | false ↦ refuse 7 ]
 unfolding given words_literal
-given_words neg v = ap (λ (r : Integer). given (words_literal r)) (signed_value neg v) ∙ go (leb v (largest neg))
+given_words neg v = ap (λ (r : Maybe ℕ). given (words_literal r)) (signed_value neg v) ∙ go (leb v (largest neg))
   where
-    go : (t : Bool) → given (words_literal (pick t (words_of (twos neg v)) Out)) ≡ elim t [ true ↦ ret (int (halves (twos neg v))) | false ↦ refuse 7 ]
+    go : (t : Bool) → given (words_literal (pick t (Some (twos neg v)) None)) ≡ elim t [ true ↦ ret (int (halves (twos neg v))) | false ↦ refuse 7 ]
     go true = refl
     go false = refl
 
 words_are : (neg : Bool) (w : List ℕ) →
-    given (elim (not (is_empty w)) [ true ↦ words_literal (signed_of neg (folded pushed (magnitude_of 0) w)) | false ↦ Refused 7 ]) ≡ integer_of neg w
+    given (elim (not (is_empty w)) [ true ↦ words_literal (signed_of neg (folded pushed (magnitude_of 0) w)) | false ↦ Err 7 ]) ≡ integer_of neg w
 unfolding is_empty integer_of given
 words_are neg [] = refl
-words_are neg (x ∷ r) = ap (λ (a : Magnitude). given (words_literal (signed_of neg a))) (magnitude_value (x ∷ r) 0) ∙ given_words neg (value_of 0 (x ∷ r))
+words_are neg (x ∷ r) = ap (λ (a : Maybe ℕ). given (words_literal (signed_of neg a))) (magnitude_value (x ∷ r) 0) ∙ given_words neg (value_of 0 (x ∷ r))
 
 module _ (neg sign : Bool) (n : Numeral) (h : Written sign n) where
   float_is : (n.exponent && is_empty n.power) ≡ false → given (decimal_in (state_of neg sign n)) ≡ decimal_of neg n
@@ -253,7 +250,7 @@ module _ (neg sign : Bool) (n : Numeral) (h : Written sign n) where
           (ap (λ (o : Option ℕ). given (float_literal neg o)) (float_right n h.whole_digits h.part_digits h.few) ∙ given_float neg (float_of n))
       go false e = rw (decimal_in, valid_is neg sign n h o, decimal_of, e)
 
-  open_out : (n.exponent && is_empty n.power) ≡ true → given (Refused 7) ≡ decimal_of neg n
+  open_out : (n.exponent && is_empty n.power) ≡ true → given (Err 7) ≡ decimal_of neg n
   unfolding decimal_of given
   open_out o = sym (rw (decimal_of, open_is neg sign n h o))
 

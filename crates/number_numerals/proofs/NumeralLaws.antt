@@ -1,13 +1,15 @@
 -- The literal of a numeral at the cursor is that of the fold's state behind it; digits alone are the integer that they write.
 -- Assumes nothing.
-use mathlib.Core.Path.{◌≡◌, refl, sym, ap, ◌∙◌, subst}
+use mathlib.Core.Path.{◌≡◌, refl, ap, ◌∙◌, subst}
 use mathlib.Core.List.{List, [], ◌∷◌}
 use mathlib.Core.Bool.{Bool, true, false}
-use Prim.Native.Nat.{ℕ, ◌+◌, ◌-◌, ◌*◌, ◌/◌, ◌%◌, ◌<◌, ◌≤◌}
+use Prim.Native.Nat.{ℕ, ◌+◌, ◌-◌, ◌%◌, ◌^◌, ◌<◌, ◌≤◌}
 use native.Mathlib.Omega.{arith}
-use lib.Dec.{leb, lit<}
+use lib.Dec.{leb}
 use lib.ListN.{length, drop, length-drop}
 use lib.Seq.{length-take-le}
+use Rattle.std.proofs.Common.{Result}
+use borrow.Author.Tests.{le-leb}
 use Rattle.program.specs.Class.{class_of, is_name}
 use Rattle.program.specs.Prog.{Prog, ret, scan_len, byte_at}
 use Rattle.program.specs.Local.{scan_len_le}
@@ -21,14 +23,13 @@ use Rattle.lexer.proofs.Laws.{given as from-run, kept, g_then, g_done, g_byte_no
 use Rattle.number_integers.specs.Folds.{folded, all_digits, begins}
 use Rattle.number_integers.specs.Literals.{given}
 use Rattle.number_numerals.specs.Numerals.{started, sign_passed, reach, literal_in}
-use Rattle.number_integers.specs.declared.literal.Literal.TheVariants.{Int, Float, Refused as Question}
+use Rattle.number_integers.specs.declared.literal.Literal.TheVariants.{Int, Float}
 use Rattle.number_integers.specs.declared.literal.Literal.{Literal}
 use Rattle.number_numerals.specs.declared.folds.Fold.{Fold}
-use Rattle.number_integers.proofs.Halves.{W, small_in, halves_are, negated_low}
 use Rattle.number_numerals.proofs.NumeralFolds.{Written as Proper, exponent_of, part_of, fold_of, numeral_literal}
 use Rattle.number_numerals.proofs.NumeralRuns.{NumeralOf, numeral_of}
 use Rattle.number_numerals.specs.Scans.{ShortAt}
-use Rattle.number_numerals.specs.Reads.{FoldedAt, LitAt, written_of, Out}
+use Rattle.number_numerals.specs.Reads.{FoldedAt, written_of}
 use Rattle.number_numerals.proofs.ScanLaws.{digits_run}
 use Rattle.lexer.proofs.TestLaws.{name_other}
 
@@ -61,7 +62,7 @@ at_cursor neg text (Ok cur) a =
 at_cursor neg text (Err r) a = record {
   numeral = nowhere;
   sign = false;
-  gives = rw a.place (kept e q);
+  gives = rw a.place (kept r.question r.place);
   proper = λ h. record {
     whole_digits = refl;
     part_digits = refl;
@@ -83,7 +84,7 @@ small : {A : Type 0} {f : Prog A} {E : Aim A} {text : List ℕ} {p p' : Parsed} 
 small d h = record { runs = λ cur t i. (h i.small).runs cur t i; hands = d }
 
 module _ (neg : Bool) {text : List ℕ} {p q : Parsed} {s : Fold} (f : FoldedAt (sign_passed started neg) text p q s) where
-  literal_here : {l : Literal} {v : Written} {r : Parsed} → l ≡ literal_in s → Gives (given l) v text q r → Gives (parse_numeral neg) v text p r
+  literal_here : {l : Result Literal ℕ} {v : Written} {r : Parsed} → l ≡ literal_in s → Gives (given l) v text q r → Gives (parse_numeral neg) v text p r
   unfolding parse_numeral
   literal_here {l} {v} {r} e h =
       let a : NumeralAt neg text p q s = at_cursor neg text p f in
@@ -91,28 +92,23 @@ module _ (neg : Bool) {text : List ℕ} {p q : Parsed} {s : Fold} (f : FoldedAt 
       let o : given l ≡ literal_of neg a.numeral = ap given e ∙ ap (λ (u : Fold). given (literal_in u)) a.state ∙ numeral_literal neg a.sign a.numeral (a.proper k) in
       g_then (literal_of neg) a.gives (subst (λ (g : Prog Written). Gives g v text q r) o h))
 
-  pub literal_int : (h k : ℕ) → Int h k ≡ literal_in s → LitAt neg text p (record { p = q; lit = Int h k })
+  pub literal_held : (l : Literal) → Ok l ≡ literal_in s → Gives (parse_numeral neg) (written_of l) text p q
   unfolding given written_of
-  literal_int h k e = record { gives = literal_here e g_done; out = λ n x. absurd (let z : ◌≡◌ {A = ℕ} 0 1 = cc in omega arith) }
+  literal_held (Int n) e = literal_here e g_done
+  literal_held (Float b) e = literal_here e g_done
 
-  pub literal_float : (b : ℕ) → Float b ≡ literal_in s → LitAt neg text p (record { p = q; lit = Float b })
-  unfolding given written_of
-  literal_float b e = record { gives = literal_here e g_done; out = λ n x. absurd (let z : ◌≡◌ {A = ℕ} 0 1 = cc in omega arith) }
-
-  pub literal_out : (n : ℕ) {r : Parsed} → Question n ≡ literal_in s → r ≡ refused n q → LitAt neg text p (record { p = r; lit = Question n })
-  unfolding given written_of
-  literal_out n e i = record { gives = literal_here e (g_fail n i); out = λ m x. subst Out (sym i) (never q) }
-    where
-      never : (u : Parsed) → Out (refused n u)
-      never (Ok c) = tt
-      never (Err r) = tt
+  pub literal_out : (n : ℕ) {r : Parsed} (v : Written) → Err n ≡ literal_in s → r ≡ refused n q → Gives (parse_numeral neg) v text p r
+  unfolding given
+  literal_out n v e i = literal_here e (g_fail n i)
 
 -- ---- digits that are a numeral by themselves
-low : (v : ℕ) → 0 * W + v ≡ v
-low v = omega arith
+abbrev W : ℕ
+W = 18446744073709551616
 
 short_in : (neg : Bool) (v : ℕ) → v < W → leb v (largest neg) ≡ true
-short_in neg v h = subst (λ (u : ℕ). leb u (largest neg) ≡ true) (low v) (small_in neg 0 v (lit< tt) h)
+unfolding largest
+short_in true v h = le-leb v (2 ^ 127) (omega arith)
+short_in false v h = le-leb v (2 ^ 127 - 1) (omega arith)
 
 integer_short : (neg : Bool) (v : ℕ) (l : List ℕ) → 0 < length l → v ≡ value_of 0 l → v < W → integer_of neg l ≡ ret (int (halves (twos neg v)))
 unfolding integer_of
@@ -146,17 +142,14 @@ module _ (neg : Bool) {text : List ℕ} {i v : ℕ} (cur : Cursor) (a : ShortAt 
       (g_byte_no 46 _ refl (no_byte 46 point_named) (g_byte_no 101 _ refl (no_byte 101 e_named) (g_byte_no 69 _ refl (no_byte 69 E-named) g_done))))
       (rw (integer_short neg v (taken digit_step 0 (drop cur.at text)) some_taken a.value h) g_done)
 
--- its two words
-words_are : (n hi lo : ℕ) → lo < W → n ≡ hi * W + lo → halves n ≡ hi ∷ lo ∷ []
-words_are n hi lo h e = let k : (hi ≡ n / W) × (lo ≡ n % W) = halves_are n hi lo h e in rw (← k.0, ← k.1)
-
-pub halves_minus : (neg : Bool) (v : ℕ) → neg ≡ true → v < W → (v ≡ 0 → ⊥) → halves (twos neg v) ≡ 18446744073709551615 ∷ (18446744073709551615 - v + 1) ∷ []
-halves_minus neg v n h z = rw n (words_are (twos true v) 18446744073709551615 (18446744073709551615 - v + 1) (omega arith) (ap (twos true) (sym (low v)) ∙ negated_low 0 v (lit< tt) h z))
-
-pub halves_plus : (neg : Bool) (v : ℕ) → neg ≡ false → v < W → halves (twos neg v) ≡ 0 ∷ v ∷ []
+-- its two's complement of 128 bits: a sum of both that 128 bits do not hold is 0
+pub twos_minus : (neg : Bool) (v n : ℕ) → neg ≡ true → v < W → n < 2 ^ 128 → (n + v) % 2 ^ 128 ≡ 0 → n ≡ twos neg v
 unfolding twos
-halves_plus neg v n h = rw n (words_are v 0 v h (sym (low v)))
+twos_minus neg v n e h k z = rw e (turned v n h k z)
+  where
+    turned : (v n : ℕ) → v < W → n < 2 ^ 128 → (n + v) % 2 ^ 128 ≡ 0 → n ≡ (2 ^ 128 - v) % 2 ^ 128
+    turned v n h k z = omega arith
 
-pub halves_zero : (neg : Bool) (v : ℕ) → neg ≡ true → v ≡ 0 → halves (twos neg v) ≡ 0 ∷ v ∷ []
+pub twos_plus : (neg : Bool) (v : ℕ) → neg ≡ false → v ≡ twos neg v
 unfolding twos
-halves_zero neg v n z = rw (n, z)
+twos_plus neg v e = rw e

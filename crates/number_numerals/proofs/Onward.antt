@@ -4,12 +4,13 @@ use mathlib.Core.Path.{◌≡◌, refl, sym, ap, ◌∙◌}
 use mathlib.Core.Bool.{Bool, true, false}
 use mathlib.Core.List.{List, [], ◌∷◌}
 use mathlib.Core.Option.{Option, none, some}
-use Prim.Native.Nat.{ℕ, suc, ◌+◌, ◌≤◌, ◌<◌}
+use Prim.Native.Nat.{ℕ, suc, ◌+◌, ◌≤◌, ◌<◌, zero-le}
 use native.Mathlib.Omega.{arith}
 use lib.Dec.{eqb}
-use lib.ListN.{length, get_or, drop, drop_of_length-le}
+use lib.ListN.{length, get_or, drop, length-drop, drop_of_length-le}
 use lib.Seq.{drop-drop}
 use borrow.Author.Tests.{eqb-true}
+use Rattle.std.specs.Prelude.{max}
 use Rattle.program.specs.Bytes.{byte}
 use Rattle.program.specs.Choice.{pick}
 use Rattle.program.specs.Class.{class_of, is_digit}
@@ -18,7 +19,7 @@ use Rattle.program.specs.Prog.{scan_len}
 use Rattle.grammar.specs.Numbers.{digit_step}
 use Rattle.lexer.specs.Step.{taken}
 use Rattle.lexer.specs.declared.Cursor.{Cursor}
-use Rattle.lexer.specs.Parsed.{Ok, Refused}
+use Rattle.lexer.specs.Parsed.{Ok}
 use Rattle.lexer.proofs.Laws.{true_false}
 use Rattle.number_integers.specs.Folds.{folded}
 use Rattle.number_numerals.specs.Numerals.{next_phase, taken_in, takes, step, onward, reach}
@@ -130,6 +131,16 @@ module _ (more : Fold → ℕ → Fold) (rest : Fold → ℕ → Option Fold) wh
         go false e true f = rw (scan_len, digit_step, e, f) (record { goes = goes_none s (x ∷ r); left = h ∙ simp e })
         go false e false f = rw (scan_len, digit_step, e, f) (record { goes = goes_none s (x ∷ r); left = h ∙ simp e })
 
+-- no more bytes than there are
+reach_len : (s : Fold) (r : List ℕ) → reach s r ≤ length r
+unfolding reach
+reach_len s [] = zero-le
+reach_len s (x ∷ r) = go (step s x) refl (λ t. reach_len t r)
+  where
+    go : (o : Option Fold) → step s x ≡ o → ((t : Fold) → reach t r ≤ length r) → reach s (x ∷ r) ≤ suc (length r)
+    go none e ih = rw (reach, e) zero-le
+    go (some t) e ih = rw (reach, e) (omega (arith, ih t))
+
 -- ---- the loop: the fold from `at` in s0 goes on from i in s
 pub record Going (text : List ℕ) (at : ℕ) (s0 : Fold) (i : ℕ) (s : Fold) : Type 0 where
   pub place : at + reach s0 (drop at text) ≡ i + reach s (drop i text)
@@ -158,9 +169,9 @@ module _ {text : List ℕ} {s0 : Fold} (cur : Cursor) {i : ℕ} {s : Fold} (a : 
   unfolding first
   going_stop h e = there (rw (drop_next text i h) (ap (λ (o : Option Phase). takes o s (get_or text i 0)) e))
 
-  pub going_out : length text ≤ i → FoldedAt s0 text (Ok cur) (Ok (record { at = i; w = cur.w })) s
+  -- where a loop over the places from the cursor on ends
+  pub going_past : {m : ℕ} → cur.at ≤ i → length text ≤ i → m ≡ max cur.at (length text) → FoldedAt s0 text (Ok cur) (Ok (record { at = m; w = cur.w })) s
   unfolding first
-  going_out h = there (rw (drop_of_length-le text h))
-
-pub folded_kept : {text : List ℕ} {s0 : Fold} (e q : ℕ) → FoldedAt s0 text (Refused e q) (Refused e q) s0
-folded_kept e q = record { place = refl; state = refl }
+  going_past {m} l h e =
+      let d : m ≡ i = omega (arith, a.place, reach_len s0 (drop cur.at text), length-drop cur.at text) in
+      rw d (there (rw (drop_of_length-le text h)))

@@ -7,10 +7,11 @@ use mathlib.Core.Bool.{true, false}
 use mathlib.Core.Option.{none, some}
 use Prim.Native.Nat.{ℕ, ◌+◌, ◌*◌, ◌≤◌, ◌<◌}
 use native.Mathlib.Omega.{arith}
-use lib.ListN.{length, get_or, drop, drop_of_length-le}
+use lib.ListN.{length, get_or, drop, length-drop, drop_of_length-le}
 use borrow.Author.Tests.{ne_eqb, lt-ltb, le-ltb, lt-leb}
 use Rattle.program.specs.Class.{class_of, is_digit, is_name}
 use Rattle.program.specs.Prog.{ret, run, ok, scan_len, byte_at}
+use Rattle.program.specs.Local.{scan_len_le}
 use Rattle.grammar.specs.Numbers.{digit_step, value_of, digits}
 use Rattle.lexer.specs.Step.{taken}
 use Rattle.program.specs.Lists.{drop_next}
@@ -61,11 +62,17 @@ pub short_start : (text : List ℕ) (at : ℕ) → Summing text at at 0
 short_start text at = record { q = 0; going = folding_start digit_step value_of text at 0 }
 
 module _ {text : List ℕ} {at i v : ℕ} (a : Summing text at i v) where
-  pub short_out : length text ≤ i → at < i → ShortAt text at i v
+  short_out : length text ≤ i → at < i → ShortAt text at i v
   unfolding value_of
   short_out h k =
       let f : FoldsTo digit_step value_of text at 0 i v = folding_out digit_step value_of text at 0 i a.q v a.going refl h in
       record { some = k; place = f.place; value = f.state; ends = name_out text i h }
+
+  -- where a loop over the places from `at` on ends
+  pub short_past : length text ≤ i → at ≤ i → at < length text → ShortAt text at (length text) v
+  short_past h l k =
+      let d : length text ≡ i = omega (arith, a.going.place, scan_len_le digit_step 0 (drop at text), length-drop at text) in
+      rw d (short_out h (omega arith))
 
   module _ {d : ℕ} (h : i < length text) (e : d ≡ class_of (get_or text i 0)) where
     pub short_more : {u : ℕ} → d < 10 → u ≡ v * 10 + d → Summing text at (i + 1) u

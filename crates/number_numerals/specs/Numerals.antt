@@ -2,7 +2,8 @@
 -- valid with a digit before or behind its point and, with `e` or `E`, one behind that. One with `.`, `e` or `E` is the binary64 nearest its value";
 -- questions 7 and 17.
 -- Assumes nothing.
-use Rattle.std.specs.Prelude.{Bool, true, false, ◌||◌, List, [], ◌∷◌, ℕ, suc, ◌+◌, eqb}
+use Rattle.std.specs.Prelude.{Bool, true, false, ◌||◌, List, [], ◌∷◌, ℕ, suc, ◌+◌, eqb, Some, None, Result, Ok, Err}
+use Rattle.std.specs.Prelude.{Option as Maybe}
 use Rattle.std.proofs.Math.Option.{Option, none, some}
 use Rattle.program.specs.Bytes.{byte}
 use Rattle.program.specs.Choice.{pick}
@@ -11,9 +12,7 @@ use Rattle.grammar.specs.Numbers.{signed}
 use Rattle.number_decimals.specs.Decimals.{counted, no_digits, digit_pushed, float_in}
 use Rattle.number_integers.specs.Integers.{magnitude_of, pushed, signed_of}
 use Rattle.number_bits.specs.Number.{capped, shifted}
-use Rattle.number_integers.specs.declared.integer.Integer.TheVariants.{Value, Refused as Out}
-use Rattle.number_integers.specs.declared.integer.Integer.{Integer}
-use Rattle.number_integers.specs.declared.literal.Literal.TheVariants.{Int, Float, Refused}
+use Rattle.number_integers.specs.declared.literal.Literal.TheVariants.{Int, Float}
 use Rattle.number_integers.specs.declared.literal.Literal.{Literal}
 use Rattle.number_numerals.specs.declared.folds.Phase.{Phase}
 use Rattle.number_numerals.specs.declared.folds.Phase.TheVariants.{Start, Front, Whole, Point, Behind, Letter, Sign, Power}
@@ -159,32 +158,32 @@ unfoldable pub reach : Fold → List ℕ → ℕ
 reach s [] = 0
 reach s (x ∷ r) = elim (step s x) [ some t ↦ suc (reach t r) | none ↦ 0 ]
 
--- the literal of a state
-unfoldable pub float_literal : Bool → Option ℕ → Literal
-float_literal neg (some b) = Float (signed neg b)
-float_literal neg none = Refused 17
+-- the literal of a state, or the number of a question
+unfoldable pub float_literal : Bool → Option ℕ → Result Literal ℕ
+float_literal neg (some b) = Ok (Float (signed neg b))
+float_literal neg none = Err 17
 
 -- "A numeral is valid with a digit before or behind its point"
-unfoldable pub decimal_in : Fold → Literal
-decimal_in s = elim s.any [ true ↦ float_literal s.neg (float_in s.mantissa s.behind s.power s.down) | false ↦ Refused 7 ]
+unfoldable pub decimal_in : Fold → Result Literal ℕ
+decimal_in s = elim s.any [ true ↦ float_literal s.neg (float_in s.mantissa s.behind s.power s.down) | false ↦ Err 7 ]
 
-unfoldable pub words_literal : Integer → Literal
-words_literal (Value h l) = Int h l
-words_literal Out = Refused 7
+unfoldable pub words_literal : Maybe ℕ → Result Literal ℕ
+words_literal (Some n) = Ok (Int n)
+words_literal None = Err 7
 
-unfoldable pub integer_in : Fold → Literal
-integer_in s = elim s.any [ true ↦ words_literal (signed_of s.neg s.whole) | false ↦ Refused 7 ]
+unfoldable pub integer_in : Fold → Result Literal ℕ
+integer_in s = elim s.any [ true ↦ words_literal (signed_of s.neg s.whole) | false ↦ Err 7 ]
 
 -- "and, with `e` or `E`, one behind that. One with `.`, `e` or `E` is the binary64 nearest its value"
-unfoldable pub literal_at : Phase → Fold → Literal
+unfoldable pub literal_at : Phase → Fold → Result Literal ℕ
 literal_at Start s = integer_in s
 literal_at Front s = integer_in s
 literal_at Whole s = integer_in s
 literal_at Point s = decimal_in s
 literal_at Behind s = decimal_in s
-literal_at Letter s = Refused 7
-literal_at Sign s = Refused 7
+literal_at Letter s = Err 7
+literal_at Sign s = Err 7
 literal_at Power s = decimal_in s
 
-abbrev pub literal_in : Fold → Literal
+abbrev pub literal_in : Fold → Result Literal ℕ
 literal_in s = literal_at s.phase s

@@ -1,11 +1,12 @@
 -- What the readers of numerals hold of their fold and their program.
 -- Assumes nothing.
-use Rattle.std.specs.Prelude.{◌≡◌, Bool, List, [], ◌∷◌, ℕ, ◌+◌, drop}
-use Rattle.grammar.specs.Numbers.{int, float, parse_numeral, Literal as Written}
+use Rattle.std.specs.Prelude.{◌≡◌, Bool, List, ℕ, ◌+◌, drop, Result, MatchResult}
+use Rattle.grammar.specs.Numbers.{int, float, halves, parse_numeral, Literal as Written}
 use Rattle.lexer.specs.Reads.{Gives}
 use Rattle.lexer.specs.Parsed.{Parsed, Ok, Err}
+use Rattle.records.specs.declared.Refusal.{Refusal}
 use Rattle.number_numerals.specs.Numerals.{onward, reach}
-use Rattle.number_integers.specs.declared.literal.Literal.TheVariants.{Int, Float, Refused as Question}
+use Rattle.number_integers.specs.declared.literal.Literal.TheVariants.{Int, Float}
 use Rattle.number_integers.specs.declared.literal.Literal.{Literal}
 use Rattle.number_numerals.specs.declared.folds.Fold.{Fold}
 use Rattle.number_numerals.specs.declared.Lit.{Lit}
@@ -26,16 +27,10 @@ pub record FoldedAt (s0 : Fold) (text : List ℕ) (p p' : Parsed) (s : Fold) : T
 
 -- a literal as the grammar has it
 unfoldable pub written_of : Literal → Written
-written_of (Int h l) = int (h ∷ l ∷ [])
+written_of (Int n) = int (halves n)
 written_of (Float b) = float b
-written_of (Question e) = float 0
 
--- the reader was refused
-abbrev pub Out : Parsed → Type 0
-Out (Ok c) = ⊥
-Out (Err r) = Unit {0}
-
--- A numeral as its literal.
-pub record LitAt (neg : Bool) (text : List ℕ) (p : Parsed) (r : Lit) : Type 0 where
-  pub gives : Gives (parse_numeral neg) (written_of r.lit) text p r.p
-  pub out : (e : ℕ) → r.lit ≡ Question e → Out r.p
+-- A numeral as its literal, or a refusal.
+abbrev pub LitAt : Bool → List ℕ → Parsed → Result Lit Refusal → Type 0
+LitAt neg text p r =
+    MatchResult r (λ l. Gives (parse_numeral neg) (written_of l.lit) text p (Ok l.c)) (λ e. (v : Written) → Gives (parse_numeral neg) v text p (Err e))

@@ -3,13 +3,13 @@
 ghost use Rattle.std.specs.Prelude.{◌≡◌};
 ghost use Rattle.program.specs.Class.{class_of};
 ghost use Rattle.number_decimals.specs.Decimals.{float_in};
-ghost use Rattle.number_numerals.specs.Numerals.{started, moved_to, sign_passed, in_phase, whole_pushed, part_pushed, power_signed, power_pushed, taken_in, float_literal, decimal_in, integer_in, literal_in};
+ghost use Rattle.number_numerals.specs.Numerals.{started, sign_passed, in_phase, whole_pushed, part_pushed, power_signed, power_pushed, taken_in, float_literal, decimal_in, integer_in, literal_in};
 
 use number_bits::ieee::SIGN64;
-use number_bits::{Val, none, shift};
+use number_bits::shift;
+use number_decimals::decimal_bits;
 use number_decimals::mantissa::{Mantissa, count_on, digit, no_digits};
-use number_decimals::{Decimal, decimal_bits};
-use number_integers::integer::{Integer, Magnitude, nothing, push, signed};
+use number_integers::integer::{push, signed};
 use number_integers::literal::Literal;
 
 // What was passed last: nothing, the sign, a digit before the point, the point, a digit behind it, the exponent's letter, its sign, a digit of it.
@@ -27,17 +27,17 @@ pub enum Phase {
 }
 
 // The phase; a minus in front; a digit before or behind the point; the digits before the point as an integer; all digits of the mantissa; how many
-// stand behind the point; a minus in front of the exponent; the exponent.
+// stand behind the point; a minus in front of the exponent; the exponent. `None` is a number that is too large to be held.
 #[derive(Clone, Copy)]
 pub struct Fold {
     pub phase: Phase,
     pub neg: bool,
     pub any: bool,
-    pub whole: Magnitude,
-    pub mantissa: Mantissa,
+    pub whole: Option<u128>,
+    pub mantissa: Option<Mantissa>,
     pub behind: u64,
     pub down: bool,
-    pub power: Val,
+    pub power: Option<u64>,
 }
 
 // Before the sign.
@@ -48,30 +48,11 @@ pub fn start() -> Fold
         phase: Phase::Start,
         neg: false,
         any: false,
-        whole: nothing(),
+        whole: Some(0),
         mantissa: no_digits(),
         behind: 0,
         down: false,
-        power: none(),
-    }
-}
-
-// Another phase and other signs, the sums as they are.
-fn moved(s: Fold, phase: Phase, neg: bool, down: bool) -> Fold
-    ensures { result ≡ moved_to s phase neg down }
-{
-    let w = s.whole;
-    let m = s.mantissa;
-    let p = s.power;
-    Fold {
-        phase,
-        neg,
-        any: s.any,
-        whole: w,
-        mantissa: m,
-        behind: s.behind,
-        down,
-        power: p,
+        power: Some(0),
     }
 }
 
@@ -79,32 +60,30 @@ fn moved(s: Fold, phase: Phase, neg: bool, down: bool) -> Fold
 pub fn pass_sign(s: Fold, neg: bool) -> Fold
     ensures { result ≡ sign_passed s neg }
 {
-    moved(s, Phase::Front, neg, s.down)
+    Fold {
+        phase: Phase::Front,
+        neg,
+        ..s
+    }
 }
 
 // The point, or the exponent's letter.
 fn in_phase(s: Fold, phase: Phase) -> Fold
     ensures { result ≡ in_phase phase s }
 {
-    moved(s, phase, s.neg, s.down)
+    Fold { phase, ..s }
 }
 
 // A digit before the point.
 fn whole_digit(s: Fold, d: u8) -> Fold
     ensures { result ≡ whole_pushed s d }
 {
-    let w = s.whole;
-    let m = s.mantissa;
-    let p = s.power;
     Fold {
         phase: Phase::Whole,
-        neg: s.neg,
         any: true,
-        whole: push(w, d),
-        mantissa: digit(m, d),
-        behind: s.behind,
-        down: s.down,
-        power: p,
+        whole: push(s.whole, d),
+        mantissa: digit(s.mantissa, d),
+        ..s
     }
 }
 
@@ -112,19 +91,12 @@ fn whole_digit(s: Fold, d: u8) -> Fold
 fn part_digit(s: Fold, d: u8) -> Fold
     ensures { result ≡ part_pushed s d }
 {
-    let w = s.whole;
-    let m = s.mantissa;
-    let p = s.power;
-    let b = s.behind;
     Fold {
         phase: Phase::Behind,
-        neg: s.neg,
         any: true,
-        whole: w,
-        mantissa: digit(m, d),
-        behind: count_on(b),
-        down: s.down,
-        power: p,
+        mantissa: digit(s.mantissa, d),
+        behind: count_on(s.behind),
+        ..s
     }
 }
 
@@ -132,25 +104,21 @@ fn part_digit(s: Fold, d: u8) -> Fold
 fn power_sign(s: Fold, down: bool) -> Fold
     ensures { result ≡ power_signed s down }
 {
-    moved(s, Phase::Sign, s.neg, down)
+    Fold {
+        phase: Phase::Sign,
+        down,
+        ..s
+    }
 }
 
 // A digit of the exponent.
 fn power_digit(s: Fold, d: u8) -> Fold
     ensures { result ≡ power_pushed s d }
 {
-    let w = s.whole;
-    let m = s.mantissa;
-    let p = s.power;
     Fold {
         phase: Phase::Power,
-        neg: s.neg,
-        any: s.any,
-        whole: w,
-        mantissa: m,
-        behind: s.behind,
-        down: s.down,
-        power: shift(p, d),
+        power: shift(s.power, d),
+        ..s
     }
 }
 
@@ -174,59 +142,55 @@ pub fn take(s: Fold, phase: Phase, b: u8, d: u8) -> Fold
     }
 }
 
-// "One with `.`, `e` or `E` is the binary64 nearest its value"; "a leading `-` sets its sign bit, at zero too".
-fn float(s: Fold) -> Literal
+// The literal, or the number of a question, here and below. "One with `.`, `e` or `E` is the binary64 nearest its value"; "a leading `-` sets its sign bit, at zero too".
+fn float(s: Fold) -> Result<Literal, u64>
     ensures { result ≡ float_literal s.neg (float_in s.mantissa s.behind s.power s.down) }
 {
-    let m = s.mantissa;
-    let p = s.power;
-    match decimal_bits(m, s.behind, p, s.down) {
-        Decimal::Bits(b) => {
+    match decimal_bits(s.mantissa, s.behind, s.power, s.down) {
+        Some(b) => {
             if s.neg {
-                return Literal::Float(SIGN64 + b);
+                return Ok(Literal::Float(SIGN64 + b));
             }
-            Literal::Float(b)
+            Ok(Literal::Float(b))
         }
-        Decimal::Unsupported => Literal::Refused(records::Q_DECIMAL),
+        None => Err(records::Q_DECIMAL),
     }
 }
 
 // "A numeral is valid with a digit before or behind its point".
-fn decimal(s: Fold) -> Literal
+fn decimal(s: Fold) -> Result<Literal, u64>
     ensures { result ≡ decimal_in s }
 {
     if s.any {
         return float(s);
     }
-    Literal::Refused(records::Q_LITERAL)
+    Err(records::Q_LITERAL)
 }
 
-fn whole_literal(s: Fold) -> Literal
+fn whole_literal(s: Fold) -> Result<Literal, u64>
     ensures { result ≡ integer_in s }
 {
     if s.any {
-        let w = s.whole;
-        return match signed(w, s.neg) {
-            Integer::Value(h, l) => Literal::Int(h, l),
-            Integer::Refused => Literal::Refused(records::Q_LITERAL),
+        return match signed(s.whole, s.neg) {
+            Some(n) => Ok(Literal::Int(n)),
+            None => Err(records::Q_LITERAL),
         };
     }
-    Literal::Refused(records::Q_LITERAL)
+    Err(records::Q_LITERAL)
 }
 
 // What a numeral is that ends in this state; questions 7 and 17. Behind the exponent's letter or sign a digit is missing.
-pub fn literal_of(s: Fold) -> Literal
+pub fn literal_of(s: Fold) -> Result<Literal, u64>
     ensures { result ≡ literal_in s }
 {
-    let phase = s.phase;
-    match phase {
+    match s.phase {
         Phase::Start => whole_literal(s),
         Phase::Front => whole_literal(s),
         Phase::Whole => whole_literal(s),
         Phase::Point => decimal(s),
         Phase::Behind => decimal(s),
-        Phase::Letter => Literal::Refused(records::Q_LITERAL),
-        Phase::Sign => Literal::Refused(records::Q_LITERAL),
+        Phase::Letter => Err(records::Q_LITERAL),
+        Phase::Sign => Err(records::Q_LITERAL),
         Phase::Power => decimal(s),
     }
 }

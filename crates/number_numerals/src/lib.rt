@@ -7,27 +7,26 @@ pub mod scans; // scans.rt: digits that are a numeral by themselves
 pub mod steps; // steps.rt: a byte more
 
 use crate::folds::Fold;
-use lexer::Parsed;
+use lexer::Cursor;
 use number_integers::literal::Literal;
 
-// A literal and where the reader is behind it. Where it is refused, so is the reader.
+// A literal, and the cursor behind it.
 #[derive(Clone, Copy)]
 pub struct Lit {
-    pub p: Parsed,
+    pub c: Cursor,
     pub lit: Literal,
 }
 
-// Where the reader is, and the numeral's state.
+// The cursor behind bytes of a numeral, and the numeral's state there.
 #[derive(Clone, Copy)]
 pub struct Folded {
-    pub p: Parsed,
+    pub c: Cursor,
     pub s: Fold,
 }
 
-// Where a run of digits ends, its value, and whether it is a numeral by itself.
+// Where a run of digits ends that is a numeral by itself, and its value.
 #[derive(Clone, Copy)]
 pub struct Short {
     pub at: usize,
     pub v: u64,
-    pub is: bool,
 }

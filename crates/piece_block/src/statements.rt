@@ -96,7 +96,7 @@ fn word_statement(text: &[u8], words: &mut [u64], p: Parsed, at: usize, b: Withi
         let q2 = lexer::pass(text, q, 1);
         let d = label_counter(text, q2, j, b, x.start, x.end);
         let q3 = d.p;
-        let n = lexer::minus(x.end, x.start);
+        let n = x.end.saturating_sub(x.start);
         let label = lexer_names::pack_word(at, n);
         return Stated {
             p: q3,

@@ -10,25 +10,18 @@ use lib.ListN.{length, get_or, drop, drop_of_length-le}
 use borrow.Author.Tests.{le-leb, lt-leb, lt-ltb, le-ltb, eqb-true, ne_eqb, ltb-true, ltb-false}
 use Rattle.program.specs.Choice.{pick}
 use Rattle.program.specs.Class.{class_of, is_digit}
-use Rattle.program.specs.Prog.{fail, no_at, run}
+use Rattle.program.specs.Prog.{fail}
 use Rattle.program.specs.Lists.{drop_next}
 use Rattle.grammar.specs.Lexer.{plain, quoted}
 use Rattle.grammar.specs.Numbers.{value_of}
 use Rattle.grammar.specs.Counter.{takes, is_number, named}
 use Rattle.lexer.specs.Step.{refused_at}
-use Rattle.lexer.specs.Reads.{Aim, Finds, Gives}
+use Rattle.lexer.specs.Reads.{Gives}
 use Rattle.lexer.specs.Parsed.{Parsed}
-use Rattle.lexer.proofs.Laws.{true_false, g_done, g_turn}
+use Rattle.lexer.proofs.Laws.{true_false, g_done, g_turn, g_fail_at}
 use Rattle.lexer_names.specs.Names.{is_quoted, inner, raw_word}
+use Rattle.std.specs.Prelude.{Some, None}
 use Rattle.piece_counter.specs.Numbers.{Near, NumberIs}
-
--- a refusal at a place
-pub g_fail_at : {A : Type 0} (e i : ℕ) {E : Aim A} {text : List ℕ} {p p' : Parsed} → p' ≡ refused_at e i p → Finds (fail e i) E text p p'
-unfolding run
-g_fail_at e i {E} {text} {p} {p'} h = record {
-  runs = λ cur t x. subst (λ (z : Parsed). E.ends cur.at cur.w (no_at e i) z) (sym (h ∙ ap (refused_at e i) t)) (E.outs cur.at cur.w e i);
-  hands = λ n y t. h ∙ ap (refused_at e i) t;
-}
 
 -- ---- a number
 pub takes_yes : {text : List ℕ} {p : Parsed} (i c v : ℕ) → c ≤ v → v < 4294967296 → Gives (takes i c v) (v + 1) text p p
@@ -132,14 +125,14 @@ module _ (raw : List ℕ) (i d : ℕ) (h : i < length raw) (e : d ≡ class_of (
         worth = n.worth ∙ ap (value_of n.acc) (drop_next raw i h) ∙ ap (λ (a : ℕ). value_of a (drop (i + 1) raw)) (more k);
       }
 
-  pub digits_not : 10 ≤ d → NumberIs raw (record { all = false; v = v })
+  pub digits_not : 10 ≤ d → NumberIs raw None
   unfolding is_number is_digit
   digits_not l =
       let k : 10 ≤ class_of (get_or raw i 0) = omega arith in
-      record { all = sym (n.all ∙ rw (drop_next raw i h, le-ltb _ _ k)); worth = λ z. true_false z }
+      record { all = sym (n.all ∙ rw (drop_next raw i h, le-ltb _ _ k)); worth = λ v e. cc }
 
-pub digits_all : (raw : List ℕ) (i : ℕ) {v : ℕ} → length raw ≤ i → Digits raw i v → NumberIs raw (record { all = true; v = v })
+pub digits_all : (raw : List ℕ) (i : ℕ) {v : ℕ} → length raw ≤ i → Digits raw i v → NumberIs raw (Some v)
 unfolding is_number value_of
 digits_all raw i {v} h n =
     let z : drop i raw ≡ [] = drop_of_length-le raw h in
-    record { all = sym (n.all ∙ rw z); worth = λ t. subst (λ (a : ℕ). Near a v) (sym (n.worth ∙ rw z)) n.near }
+    record { all = sym (n.all ∙ rw z); worth = λ w t. let e : v ≡ w = cc in subst (λ (a : ℕ). Near a w) (sym (n.worth ∙ rw z)) (subst (Near n.acc) e n.near) }

@@ -27,13 +27,6 @@ pub struct CountedName {
     pub c: u64,
 }
 
-// Are all bytes of a name digits, and what do they write? From 2^32 on any number stands for any other.
-#[derive(Clone, Copy)]
-pub struct Written {
-    pub all: bool,
-    pub v: u64,
-}
-
 // The number v where the counter is c; 26, at `at`, where it is below the counter or not below 2^32.
 fn take(p: Parsed, at: usize, c: u64, v: u64) -> Counter
     ensures { (text : List ℕ) → Gives (takes at c v) result.c text p result.p }
@@ -66,50 +59,40 @@ fn add_digit(v: u64, d: u8) -> u64
     v
 }
 
-// The number that bytes write, if all are digits.
-fn number_in(raw: &[u8]) -> Written
+// The number that bytes write, if all are digits. From 2^32 on any number stands for any other.
+fn number_in(raw: &[u8]) -> Option<u64>
     ensures { NumberIs raw.now result }
 {
-    let mut i = 0;
     let mut v: u64 = 0;
-    while i < raw.len() {
-        let d = class(raw[i]);
+    for b in raw {
+        let d = class(*b);
         if DIGIT <= d {
-            return Written { all: false, v };
+            return None;
         }
         v = add_digit(v, d);
-        i += 1;
     }
-    Written { all: true, v }
+    Some(v)
 }
 
 // The counter behind a name, which is lent as it stands.
 fn named_raw(raw: &[u8], p: Parsed, at: usize, c: u64) -> Counter
     ensures { (text : List ℕ) → Gives (named at c (raw_word raw.now)) result.c text p result.p }
 {
-    let n = number_in(raw);
-    if n.all {
-        return take(p, at, c, n.v);
+    match number_in(raw) {
+        Some(v) => take(p, at, c, v),
+        None => Counter { p, c },
     }
-    Counter { p, c }
 }
 
 // The counter behind the name that stands from a place to another; 26 is refused at `at`.
-pub fn name_counter(
-    text: &[u8],
-    p: Parsed,
-    at: usize,
-    c: u64,
-    from: usize,
-    to: usize,
-) -> Counter
+pub fn name_counter(text: &[u8], p: Parsed, at: usize, c: u64, from: usize, to: usize) -> Counter
     ensures { Gives (named at c (raw_word (part text.now from to))) result.c text.now p result.p }
 {
-    let end = lexer_keywords::least(to, text.len());
+    let end = to.min(text.len());
     if from <= end {
         return named_raw(&text[from..end], p, at, c);
     }
-    named_raw(&text[0..0], p, at, c)
+    named_raw(&[], p, at, c)
 }
 
 // A name behind its sigil, as its word, and the counter behind it.

@@ -1,10 +1,14 @@
 -- The lines of some pieces are the first one's line and the rest: a directory is its first entry and the rest.
 -- Assumes nothing.
 use mathlib.Core.Path.{◌≡◌, refl}
+use mathlib.Core.Bool.{Bool, true, false}
 use mathlib.Core.List.{List, [], ◌∷◌, ◌++◌}
 use Prim.Native.Nat.{ℕ, zero, suc, ◌+◌, ◌-◌, ◌*◌, ◌/◌, ◌≤◌, ◌<◌}
 use native.Mathlib.Omega.{arith}
+use lib.Dec.{leb}
 use lib.ListN.{length, drop, get_or}
+use borrow.Author.Tests.{leb-true, leb-false}
+use Rattle.std.specs.Prelude.{min}
 use Rattle.records.specs.Limits.{entry_words}
 use Rattle.records.specs.Words.{hi, lo}
 use Rattle.records.specs.Entries.{three, short}
@@ -41,17 +45,24 @@ no_end (x ∷ []) w (suc n) h = refl
 no_end (x ∷ y ∷ []) w (suc n) h = refl
 no_end (x ∷ y ∷ c ∷ xs) w (suc n) h = absurd (omega arith)
 
-pub lines_over : (dir : List ℕ) (i n : ℕ) → length dir / entry_words ≤ i → piece_lines i (n - i) (drop (i * entry_words) dir) ≡ []
-lines_over dir i n h = no_line (drop (i * entry_words) dir) i (n - i) (short dir i h)
+-- so many of n entries are there
+pub entry_there : (dir : List ℕ) (i n : ℕ) → i < min n (length dir / entry_words) → (i < n) × (i * entry_words + 2 < length dir)
+entry_there dir i n h = (omega arith, omega arith)
 
-pub end_over : (dir : List ℕ) (w i n : ℕ) → length dir / entry_words ≤ i → words_end w (n - i) (drop (i * entry_words) dir) ≡ w
-end_over dir w i n h = no_end (drop (i * entry_words) dir) w (n - i) (short dir i h)
+-- all pieces are done, or all that are there
+module _ (dir : List ℕ) (i n : ℕ) (h : min n (length dir / entry_words) ≤ i) where
+  pub lines_end : piece_lines i (n - i) (drop (i * entry_words) dir) ≡ []
+  unfolding piece_lines
+  lines_end = go (leb n i) refl
+    where
+      go : (t : Bool) → leb n i ≡ t → piece_lines i (n - i) (drop (i * entry_words) dir) ≡ []
+      go true e = let d : n - i ≡ 0 = omega (arith, leb-true n i e) in rw d
+      go false e = no_line (drop (i * entry_words) dir) i (n - i) (short dir i (omega (arith, leb-false n i e)))
 
--- all pieces are done
-pub lines_done : (dir : List ℕ) (i n : ℕ) → n ≤ i → piece_lines i (n - i) (drop (i * entry_words) dir) ≡ []
-unfolding piece_lines
-lines_done dir i n h = let d : n - i ≡ 0 = omega arith in rw d
-
-pub end_done : (dir : List ℕ) (w i n : ℕ) → n ≤ i → words_end w (n - i) (drop (i * entry_words) dir) ≡ w
-unfolding words_end
-end_done dir w i n h = let d : n - i ≡ 0 = omega arith in rw d
+  pub end_end : (w : ℕ) → words_end w (n - i) (drop (i * entry_words) dir) ≡ w
+  unfolding words_end
+  end_end w = go (leb n i) refl
+    where
+      go : (t : Bool) → leb n i ≡ t → words_end w (n - i) (drop (i * entry_words) dir) ≡ w
+      go true e = let d : n - i ≡ 0 = omega (arith, leb-true n i e) in rw d
+      go false e = no_end (drop (i * entry_words) dir) w (n - i) (short dir i (omega (arith, leb-false n i e)))

@@ -1,7 +1,8 @@
 // What the programs print: a listing of pieces, a refusal, made in a lent buffer.
 #![tactic(auto)]
 
-ghost use Rattle.std.specs.Prelude.{◌≡◌};
+ghost use Rattle.std.specs.Prelude.{◌≡◌, ◌/◌, length, min};
+ghost use Rattle.records.specs.Limits.{entry_words};
 ghost use Rattle.buffer.specs.Stored.{Stores};
 ghost use Rattle.pieces_listing.specs.Lines.{field, piece_line, piece_lines, words_end, listing, refusal_line};
 
@@ -27,20 +28,22 @@ fn put_piece(out: &mut [u8], at: usize, i: u64, x: u64, y: u64) -> usize
     put_all(out, k4, b"\n")
 }
 
+// How many of n entries a directory has.
+fn entries_there(directory: &[u64], n: usize) -> usize
+    ensures { result ≡ min n (length directory.now / entry_words) }
+{
+    n.min(directory.len() / records::ENTRY_WORDS)
+}
+
 // A line for each of n pieces, as far as the directory has them.
 fn put_pieces(out: &mut [u8], at: usize, directory: &[u64], n: usize) -> usize
     ensures { Stores (piece_lines 0 n directory.now) at out.old result out.new }
 {
     let mut k = at;
-    let mut i: usize = 0;
-    while i < n {
-        if directory.len() / records::ENTRY_WORDS <= i {
-            return k;
-        }
+    for i in 0..entries_there(directory, n) {
         let x = directory[i * records::ENTRY_WORDS];
         let y = directory[i * records::ENTRY_WORDS + 1];
         k = put_piece(out, k, i as u64, x, y);
-        i += 1;
     }
     k
 }
@@ -50,14 +53,9 @@ fn words_end(directory: &[u64], n: usize) -> u64
     ensures { result ≡ words_end 0 n directory.now }
 {
     let mut end: u64 = 0;
-    let mut i: usize = 0;
-    while i < n {
-        if directory.len() / records::ENTRY_WORDS <= i {
-            return end;
-        }
+    for i in 0..entries_there(directory, n) {
         let y = directory[i * records::ENTRY_WORDS + 1];
         end = y / records::HALF + y % records::HALF;
-        i += 1;
     }
     end
 }

@@ -8,8 +8,8 @@ ghost use Rattle.map_spec.specs.Blocks.{piece_text, first_node, behind_node};
 pub fn piece_text(text: &[u8], x: u64) -> &[u8]
     ensures { result.now ≡ piece_text text.now x }
 {
-    let start = lexer_keywords::least((x / records::HALF) as usize, text.len());
-    let end = start + lexer_keywords::least((x % records::HALF) as usize, text.len() - start);
+    let start = ((x / records::HALF) as usize).min(text.len());
+    let end = start + ((x % records::HALF) as usize).min(text.len() - start);
     &text[start..end]
 }
 
@@ -21,7 +21,7 @@ pub fn behind_node(words: &[u64], at: usize) -> usize
         return at;
     }
     let extent = (words[at] % records::HALF) as usize;
-    at + lexer_keywords::least(extent, words.len() - at)
+    at + extent.min(words.len() - at)
 }
 
 // Its words.
@@ -29,9 +29,9 @@ pub fn node_at(words: &[u64], at: usize) -> &[u64]
     ensures { result.now ≡ first_node (drop at words.now) }
 {
     if words.len() <= at {
-        return &words[0..0];
+        return &[];
     }
     let extent = (words[at] % records::HALF) as usize;
-    let end = at + lexer_keywords::least(extent, words.len() - at);
+    let end = at + extent.min(words.len() - at);
     &words[at..end]
 }

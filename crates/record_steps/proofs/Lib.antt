@@ -1,4 +1,3 @@
 pub mod StepLaws
 pub mod PayloadLaws
-pub mod MoveLaws
 pub mod NameLaws

@@ -7,9 +7,11 @@ use mathlib.Core.Option.{Option, none, some}
 use Prim.Native.Nat.{ℕ, ◌+◌, ◌≤◌, ◌<◌}
 use lib.Dec.{ltb}
 use lib.ListN.{length, get_or-eq_default}
+use Rattle.std.specs.Prelude as std
 use Rattle.records.specs.Kinds.{Kind}
 use Rattle.trees.specs.Forms.{payload_length}
 use Rattle.trees.specs.Steps.{word_at, kind_in, detail_in, children_in, is_header, kinds, kind_of, step_to, behind_payload, child_of}
+use Rattle.record_steps.specs.Views.{reached}
 use Rattle.record_steps.specs.Bounds.{header_inside}
 use Rattle.record_steps.specs.Payloads.{length_among, step_behind}
 
@@ -32,3 +34,8 @@ module _ (ws : List ℕ) (at : ℕ) where
   by_length h k d w o e i j kk dd ww oo =
       let yes : (is_header (word_at ws at) && ltb 0 (children_in (word_at ws at))) ≡ true = rw (← e, i, j) refl in
       rw (oo, kk, dd, ww, e, yes, child_of) (by_kind (kind_of (kind_in (word_at ws at))))
+
+-- a step, else another
+pub or_else : (o r : std.Option ℕ) (m : Option ℕ) → (o ≡ std.None → reached r ≡ m) → ((x : ℕ) → o ≡ std.Some x → r ≡ std.Some x) → reached r ≡ elim (reached o) [ some to ↦ some to | none ↦ m ]
+or_else std.None r m other same = other refl
+or_else (std.Some x) r m other same = rw (same x refl)

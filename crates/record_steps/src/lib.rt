@@ -14,18 +14,11 @@ ghost use Rattle.record_steps.specs.Moves.{place_or};
 
 use payloads::Payload;
 
-// Where a step goes, or that it is none.
-#[derive(Clone, Copy)]
-pub enum Step {
-    To(usize),
-    Nothing,
-}
-
 // The word at a place; past the array 0, which is no header.
 pub fn word_at(words: &[u64], at: usize) -> u64
     ensures { result ≡ word_at words.now at }
 {
-    if at < words.len() { words[at] } else { 0 }
+    words.get(at).copied().unwrap_or(0)
 }
 
 // A header's detail is below this, 2^8.
@@ -67,59 +60,50 @@ pub fn is_header(word: u64) -> bool
 }
 
 // The step to a place: none where no header stands there.
-pub fn step_to(words: &[u64], to: usize) -> Step
+pub fn step_to(words: &[u64], to: usize) -> Option<usize>
     ensures { reached result ≡ step_to words.now to }
 {
     if is_header(word_at(words, to)) {
-        Step::To(to)
+        Some(to)
     } else {
-        Step::Nothing
+        None
     }
 }
 
-// The step over n words. The sum is asked for only where it is a place of the array, so that it does not wrap.
-fn step_over(words: &[u64], at: usize, n: u64) -> Step
+// The step over n words. Where the sum wraps there is no place of the array.
+fn step_over(words: &[u64], at: usize, n: u64) -> Option<usize>
     ensures { reached result ≡ step_to words.now (at + n) }
 {
-    if at < words.len() {
-        if n < ((words.len() - at) as u64) {
-            return step_to(words, at + (n as usize));
-        }
-    }
-    Step::Nothing
+    step_to(words, at.checked_add(n as usize)?)
 }
 
-// The step over a header and a switch's payload: a word for the count and two for each case. The count is compared before it is doubled.
-fn step_over_cases(words: &[u64], at: usize, count: u64) -> Step
+// The step over a header and a switch's payload: a word for the count and two for each case.
+fn step_over_cases(words: &[u64], at: usize, count: u64) -> Option<usize>
     ensures { reached result ≡ step_to words.now (at + (1 + (1 + (count + count)))) }
 {
-    if count < ((words.len() / 2) as u64) {
-        return step_over(words, at, 1 + (1 + (count + count)));
-    }
-    Step::Nothing
+    step_over(words, at, count.checked_mul(2)?.checked_add(2)?)
 }
 
 // The step behind a header and its payload; none where no kind has the header's number.
-fn step_behind(words: &[u64], at: usize, payload: Payload) -> Step
+fn step_behind(words: &[u64], at: usize, payload: Option<Payload>) -> Option<usize>
     ensures { reached result ≡ step_behind words.now at (words_in payload) }
 {
-    match payload {
-        Payload::Words(n) => step_over(words, at, 1 + (n as u64)),
+    match payload? {
+        Payload::Words(n) => step_over(words, at, 1 + u64::from(n)),
         Payload::Cases(count) => step_over_cases(words, at, count),
-        Payload::Unknown => Step::Nothing,
     }
 }
 
 // "child": the first child stands behind the payload.
-pub fn child(words: &[u64], at: usize) -> Step
+pub fn child(words: &[u64], at: usize) -> Option<usize>
     ensures { reached result ≡ child_of words.now at }
 {
     let header = word_at(words, at);
     if !is_header(header) {
-        return Step::Nothing;
+        return None;
     }
     if !has_children(header) {
-        return Step::Nothing;
+        return None;
     }
     let payload = payloads::payload_length(
         kind_in(header),
@@ -129,54 +113,38 @@ pub fn child(words: &[u64], at: usize) -> Step
     step_behind(words, at, payload)
 }
 
-// "next below a given parent's end": the next node begins behind all words of this one. Compared without a sum, which could wrap.
-pub fn next(words: &[u64], at: usize, end: usize) -> Step
+// "next below a given parent's end": the next node begins behind all words of this one.
+pub fn next(words: &[u64], at: usize, end: usize) -> Option<usize>
     ensures { reached result ≡ next_of words.now at end }
 {
     let header = word_at(words, at);
     if !is_header(header) {
-        return Step::Nothing;
+        return None;
     }
-    if end <= at {
-        return Step::Nothing;
+    let behind = at.checked_add((header % records::HALF) as usize)?;
+    if behind < end {
+        return step_to(words, behind);
     }
-    let extent = header % records::HALF;
-    if extent < ((end - at) as u64) {
-        return step_over(words, at, extent);
-    }
-    Step::Nothing
+    None
 }
 
 // "child, else next below the array's end".
-pub fn onward(words: &[u64], at: usize) -> Step
+pub fn onward(words: &[u64], at: usize) -> Option<usize>
     ensures { reached result ≡ step_of words.now at }
 {
-    match child(words, at) {
-        Step::To(to) => Step::To(to),
-        Step::Nothing => next(words, at, words.len()),
-    }
-}
-
-// The place of a step, or the place where it was asked.
-fn place_or(step: Step, at: usize) -> usize
-    ensures { result ≡ place_or at (reached step) }
-{
-    match step {
-        Step::To(to) => to,
-        Step::Nothing => at,
-    }
+    child(words, at).or_else(|| next(words, at, words.len()))
 }
 
 // The first child's place, or the place itself: a step goes forward, so that the two are never the same.
 pub fn child_or_stay(words: &[u64], at: usize) -> usize
     ensures { result ≡ place_or at (child_of words.now at) }
 {
-    place_or(child(words, at), at)
+    child(words, at).unwrap_or(at)
 }
 
 // The next node's place, or the place itself.
 pub fn next_or_stay(words: &[u64], at: usize, end: usize) -> usize
     ensures { result ≡ place_or at (next_of words.now at end) }
 {
-    place_or(next(words, at, end), at)
+    next(words, at, end).unwrap_or(at)
 }

@@ -3,12 +3,11 @@ ghost use Rattle.std.specs.Prelude.{◌≡◌};
 ghost use Rattle.trees.specs.Steps.{kinds};
 ghost use Rattle.record_steps.specs.Payloads.{length_among, ways, words_in};
 
-// A number of words; a switch's count word and two words for each case; or that no kind has this number.
+// A number of words; or a switch's count word and two words for each case.
 #[derive(Clone, Copy)]
 pub enum Payload {
     Words(u8),
     Cases(u64),
-    Unknown,
 }
 
 // For each kind's number the first kind whose payload is counted in the same way, and 0 where no kind has the number.
@@ -85,16 +84,17 @@ fn alike(kind: u8) -> u8
     if kind < 64 { ALIKE[kind as usize] } else { 0 }
 }
 
-pub fn payload_length(kind: u8, detail: u8, first: u64) -> Payload
+// None where no kind has this number.
+pub fn payload_length(kind: u8, detail: u8, first: u64) -> Option<Payload>
     ensures { words_in result ≡ length_among kinds kind detail first }
 {
     match alike(kind) {
-        records::K_VOID => Payload::Words(0),
-        records::K_INT => Payload::Words(1),
-        records::K_INT_CONST => Payload::Words(2),
-        records::K_LOAD => Payload::Words(1 + detail / records::D_ALIGN % 2),
-        records::K_ALLOCA => Payload::Words(1 + detail / records::D_ALLOCA_ALIGN % 2),
-        records::K_SWITCH => Payload::Cases(first),
-        _ => Payload::Unknown,
+        records::K_VOID => Some(Payload::Words(0)),
+        records::K_INT => Some(Payload::Words(1)),
+        records::K_INT_CONST => Some(Payload::Words(2)),
+        records::K_LOAD => Some(Payload::Words(1 + detail / records::D_ALIGN % 2)),
+        records::K_ALLOCA => Some(Payload::Words(1 + detail / records::D_ALLOCA_ALIGN % 2)),
+        records::K_SWITCH => Some(Payload::Cases(first)),
+        _ => None,
     }
 }

@@ -14,10 +14,9 @@ pub struct Position {
 pub fn position_of(text: &[u8], place: usize) -> Position
     ensures { result ≡ position_of text.now place }
 {
-    let mut i = 0;
     let mut line = 1;
     let mut column = 1;
-    while i < place {
+    for i in 0..place {
         if text.len() <= i {
             return Position {
                 line,
@@ -30,7 +29,6 @@ pub fn position_of(text: &[u8], place: usize) -> Position
         } else {
             column += 1;
         }
-        i += 1;
     }
     Position { line, column }
 }

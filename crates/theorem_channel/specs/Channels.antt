@@ -20,7 +20,7 @@ use Rattle.theorem_trees.specs.Function.{accepted_function}
 use Rattle.map_spec.specs.Blocks.{piece_text, first_node, behind_node}
 use Rattle.theorem_map.specs.Words.{behind_node_lem}
 use Rattle.channel_spec.specs.declared.Rule.{Rule}
-use Rattle.channel_spec.specs.declared.Told.TheVariants.{Answer}
+use Rattle.channel_spec.specs.Told.{Answer}
 use Rattle.channel_spec.specs.declared.Fired.{Fired}
 use Rattle.channel_spec.specs.declared.Fired.TheVariants.{Channel, Undecided, Nothing}
 use Rattle.channel_spec.specs.Fires.{constant, callee_place, from, calls_fire, constant_of, fire_of, fires_of, block_fires, function_fires, child_at, calls_fire_at, constant_at, fire_in, fire_here, fires_from, fires_in, blocks_in, word_fires, nth}

@@ -9,8 +9,7 @@ use Rattle.program.specs.Choice.{pick}
 use Rattle.records.specs.Limits.{class_limit, channel_limit}
 use Rattle.records.specs.Questions.{q_rule, q_overlap, q_gap}
 use Rattle.channel_spec.specs.declared.Rule.{Rule}
-use Rattle.channel_spec.specs.declared.Told.{Told}
-use Rattle.channel_spec.specs.declared.Told.TheVariants.{Answer, Refused}
+use Rattle.channel_spec.specs.Told.{Told, Answer, Refused, same_refused}
 use Rattle.channel_spec.specs.declared.Fired.{Fired}
 use Rattle.channel_spec.specs.declared.Fired.TheVariants.{Channel, Undecided, Nothing}
 use Rattle.channel_spec.specs.Table.{classes, channels, is_bad, first_that, overlap, first_overlap, covers, covered, gap_from, first_gap, or_else, asked_place, judged, permits}
@@ -438,19 +437,19 @@ refusals_named asked rs a q p e = go (asked_place asked) (first_that is_bad 0 rs
     go : (o m n r : Option ℕ) → asked_place asked ≡ o → first_that is_bad 0 rs ≡ m → first_overlap 0 rs ≡ n → first_gap classes 0 rs ≡ r → told_of o m n r (Answer a) ≡ Refused q p → Refusal asked rs q p
     go (some x) m n r h i j k e =
         let s : (class_limit < asked) × (x ≡ 0) = asked_some asked x h in
-        let t : (q_rule ≡ q) × (x ≡ p) = (cc, cc) in
+        let t : (q_rule ≡ q) × (x ≡ p) = same_refused q_rule x q p e in
         put q_rule 0 t.0 (sym s.1 ∙ t.1) (class_asked s.0)
     go none (some x) n r h i j k e =
         let s : (b : ℕ) × ((x ≡ 0 + b) × First is_bad b rs) = first_some is_bad 0 rs x i in
-        let t : (q_rule ≡ q) × (x ≡ p) = (cc, cc) in
+        let t : (q_rule ≡ q) × (x ≡ p) = same_refused q_rule x q p e in
         put q_rule s.0 t.0 (omega (arith, s.1.0, t.1)) (bad_rule s.0 (asked_none asked h) s.1.1)
     go none none (some x) r h i j k e =
         let s : (b : ℕ) × FirstPair b x rs = overlap_found rs x j in
-        let t : (q_overlap ≡ q) × (x ≡ p) = (cc, cc) in
+        let t : (q_overlap ≡ q) × (x ≡ p) = same_refused q_overlap x q p e in
         put q_overlap x t.0 t.1 (two_overlap s.0 x (asked_none asked h) i s.1)
     go none none none (some x) h i j k e =
         let s : (d : ℕ) × ((y : ℕ) × ((x ≡ d * channels + y) × ((0 ≤ d) × ((d < 0 + classes) × ((y < channels) × (FirstGap d 0 y rs × WholeClasses 0 d rs)))))) = gaps_some classes 0 rs x k in
-        let t : (q_gap ≡ q) × (x ≡ p) = (cc, cc) in
+        let t : (q_gap ≡ q) × (x ≡ p) = same_refused q_gap x q p e in
         let d : ℕ = s.0 in
         let y : ℕ = s.1.0 in
         put q_gap (d * channels + y) t.0 (sym s.1.1.0 ∙ t.1)

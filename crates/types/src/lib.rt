@@ -38,12 +38,7 @@ fn no_type(depth: usize) -> u64
 
 // `{ T, T, .. }`, behind the opening brace.
 #[cycle(type_readers)]
-fn parse_struct_fields(
-    text: &[u8],
-    words: &mut [u64],
-    p: Parsed,
-    depth: usize,
-) -> Listed
+fn parse_struct_fields(text: &[u8], words: &mut [u64], p: Parsed, depth: usize) -> Listed
     ensures { Leads (struct_fields (parse_type depth)) 0 [] (made (listed result.n 0) text.now p) text.now p p words.old result.p words.new }
 {
     let mut q = lexer::eat_ws(text, p);
@@ -72,12 +67,7 @@ fn parse_struct_fields(
 
 // Types with attributes, `...` in the last place, through the parenthesis (`parse_type_list`). The return type counts with them.
 #[cycle(type_readers)]
-pub fn parse_type_list(
-    text: &[u8],
-    words: &mut [u64],
-    p: Parsed,
-    depth: usize,
-) -> Listed
+pub fn parse_type_list(text: &[u8], words: &mut [u64], p: Parsed, depth: usize) -> Listed
     ensures { Leads (parse_type_list (no_type depth) (parse_type depth)) 0 [] (made (listed result.n result.dots) text.now p) text.now p p words.old result.p words.new }
 {
     let mut q = lexer::eat_ws(text, p);
@@ -141,12 +131,7 @@ fn array_type(
 
 // `{..}`, behind the opening brace.
 #[cycle(type_readers)]
-fn struct_type(
-    text: &[u8],
-    words: &mut [u64],
-    p: Parsed,
-    depth: usize,
-) -> Parsed
+fn struct_type(text: &[u8], words: &mut [u64], p: Parsed, depth: usize) -> Parsed
     ensures { Leads (struct_type (parse_type depth)) 1 [] (made same text.now p) text.now p p words.old result words.new }
 {
     let q = node_words::push(words, p, 0);
@@ -157,12 +142,7 @@ fn struct_type(
 
 // `<{..}>` and `<N x T>`, behind the `<`.
 #[cycle(type_readers)]
-fn packed_type(
-    text: &[u8],
-    words: &mut [u64],
-    p: Parsed,
-    depth: usize,
-) -> Parsed
+fn packed_type(text: &[u8], words: &mut [u64], p: Parsed, depth: usize) -> Parsed
     ensures { Leads (packed_type (parse_type depth)) 2 [] (made same text.now p) text.now p p words.old result words.new }
 {
     if lexer::looks(text, p, b'{') {
@@ -178,12 +158,7 @@ fn packed_type(
 
 // A type without what may stand behind it. No keyword begins with a byte that is tried first.
 #[cycle(type_readers)]
-fn parse_base_type(
-    text: &[u8],
-    words: &mut [u64],
-    p: Parsed,
-    depth: usize,
-) -> Parsed
+fn parse_base_type(text: &[u8], words: &mut [u64], p: Parsed, depth: usize) -> Parsed
     ensures { Reads (parse_base_type (parse_type depth)) text.now p words.old result words.new }
 {
     if lexer::looks(text, p, b'i') {
@@ -211,13 +186,7 @@ fn parse_base_type(
 
 // What may stand behind a type, whose words begin at p0.
 #[cycle(type_readers)]
-fn type_suffixes(
-    text: &[u8],
-    words: &mut [u64],
-    p0: Parsed,
-    p: Parsed,
-    depth: usize,
-) -> Parsed
+fn type_suffixes(text: &[u8], words: &mut [u64], p0: Parsed, p: Parsed, depth: usize) -> Parsed
     ensures { (t : List ℕ) → Leads (suffixes 16777217 (no_type depth) (parse_type depth) t) 0 t (typed (parse_type_list (no_type depth) (parse_type depth)) text.now p0) text.now p0 p words.old result words.new }
 {
     let mut q = p;
@@ -249,12 +218,7 @@ fn type_suffixes(
 
 // A type (`parse_type`). At a parenthesis behind it that no `*` follows the cursor is back at the parenthesis.
 #[cycle(type_readers)]
-pub fn parse_type(
-    text: &[u8],
-    words: &mut [u64],
-    p: Parsed,
-    depth: usize,
-) -> Parsed
+pub fn parse_type(text: &[u8], words: &mut [u64], p: Parsed, depth: usize) -> Parsed
     ensures { Types depth text.now p words.old result words.new }
 {
     let q = lexer::eat_ws(text, p);

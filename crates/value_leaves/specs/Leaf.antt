@@ -1,6 +1,6 @@
 -- What the code of the values holds of their programs.
 -- Assumes nothing.
-use Rattle.std.specs.Prelude.{◌≡◌, Bool, true, false, List, [], ◌∷◌, ℕ, suc, ◌≤◌, ◌<◌, length}
+use Rattle.std.specs.Prelude.{◌≡◌, Bool, true, false, List, [], ◌∷◌, ℕ, suc, ◌≤◌, ◌<◌, length, Option, Some, None}
 use Rattle.program.specs.Bytes.{bytes}
 use Rattle.program.specs.Prog.{Prog, ret, ◌>>=◌}
 use Rattle.records.specs.Words.{node}
@@ -33,9 +33,9 @@ unfoldable pub word_values : Prog (List ℕ) → Prog (List ℕ)
 word_values g = key_values (word_at_if (bytes "c") cstring (prefix_if (bytes "f0x") (parse_f0x >>= float_node) g))
 
 -- a word of a table is read, with its rank, or none stands here
-pub record Op (table : List (List ℕ)) (text : List ℕ) (p p' : Parsed) (r : ℕ) (hit : Bool) : Type 0 where
-  pub yes : hit ≡ true → (r < length table) × ((r ≡ rank_p table text p) × (p' ≡ ranked_p table text p))
-  pub no : hit ≡ false → (s : ℕ) × (length table ≤ s) × ((s ≡ rank_p table text p) × (p' ≡ ranked_p table text p))
+pub record Op (table : List (List ℕ)) (text : List ℕ) (p p' : Parsed) (rank : Option ℕ) : Type 0 where
+  pub yes : (r : ℕ) → rank ≡ Some r → (r < length table) × ((r ≡ rank_p table text p) × (p' ≡ ranked_p table text p))
+  pub no : rank ≡ None → (s : ℕ) × (length table ≤ s) × ((s ≡ rank_p table text p) × (p' ≡ ranked_p table text p))
 
 -- One turn over a getelementptr's flags: behind a flag the loop goes on, else it is over.
 pub record FlagStep (text : List ℕ) (p : Parsed) (v : ℕ) (p' : Parsed) (v' : ℕ) (more : Bool) : Type 0 where

@@ -1,12 +1,13 @@
 // The values that hold no other, and what stands in front of constant expressions. Each function writes the words of what it reads behind the cursor.
 #![tactic(auto)]
 
-ghost use Rattle.std.specs.Prelude.{◌≡◌, true, List, [], ◌∷◌, ℕ};
+ghost use Rattle.std.specs.Prelude.{◌≡◌, true, List, [], ◌∷◌, ℕ, ◌≤◌, length};
 ghost use Rattle.program.specs.Bytes.{bytes};
 ghost use Rattle.program.specs.Prog.{ret};
 ghost use Rattle.records.specs.Words.{node};
 ghost use Rattle.records.specs.Limits.{turns};
-ghost use Rattle.grammar.specs.Values.{conv_ops, bin_ops, cstring, leaf_values, parse_gep_flags};
+ghost use Rattle.grammar.specs.Values.{cstring, leaf_values, parse_gep_flags};
+ghost use Rattle.lexer.specs.Table.{words_of};
 ghost use Rattle.lexer.specs.Step.{word_p};
 ghost use Rattle.lexer.specs.Reads.{Leads, Reads, Gives, made, same};
 ghost use Rattle.value_leaves.specs.Leaf.{Tried, key_values, Op, FlagStep};
@@ -14,15 +15,15 @@ ghost use Rattle.value_leaves.specs.Leaf.{Tried, key_values, Op, FlagStep};
 use lexer::Parsed;
 use number_nodes::Hit;
 
-// An operator's rank, and whether one stands there.
+// An operator's rank, where one stands.
 #[derive(Clone, Copy)]
 pub struct Oper {
     pub p: Parsed,
-    pub r: u8,
-    pub hit: bool,
+    pub rank: Option<u8>,
 }
 
-static CONV_OPS: [&[u8]; 6] = [
+// The conversions (`match_conv_op`).
+pub static CONV_OPS: [&[u8]; 6] = [
     b"trunc",
     b"zext",
     b"sext",
@@ -31,51 +32,25 @@ static CONV_OPS: [&[u8]; 6] = [
     b"bitcast",
 ];
 
-// A conversion's word (`match_conv_op`).
-pub fn match_conv_op(text: &[u8], p: Parsed) -> Oper
-    ensures { Op conv_ops text.now p result.p result.r result.hit }
-{
-    let k = lexer_keywords::match_rank(text, p, &CONV_OPS);
-    let q = k.p;
-    let r = k.r;
-    if r < 6 {
-        return Oper {
-            p: q,
-            r: r as u8,
-            hit: true,
-        };
-    }
-    Oper {
-        p: q,
-        r: 0,
-        hit: false,
-    }
-}
-
-static BIN_OPS: [&[u8]; 13] = [
+// The binary operations (`match_bin_op`).
+pub static BIN_OPS: [&[u8]; 13] = [
     b"add", b"sub", b"mul", b"udiv", b"sdiv", b"urem", b"srem", b"and", b"or", b"xor", b"shl",
     b"lshr", b"ashr",
 ];
 
-// A binary operation's word (`match_bin_op`).
-pub fn match_bin_op(text: &[u8], p: Parsed) -> Oper
-    ensures { Op bin_ops text.now p result.p result.r result.hit }
+// An operator of a table.
+pub fn match_op(text: &[u8], p: Parsed, table: &[&[u8]]) -> Oper
+    requires { length table.now ≤ 256 }
+    ensures { Op (words_of table.now) text.now p result.p result.rank }
 {
-    let k = lexer_keywords::match_rank(text, p, &BIN_OPS);
-    let q = k.p;
-    let r = k.r;
-    if r < 13 {
+    let k = lexer_keywords::match_rank(text, p, table);
+    if k.r < table.len() {
         return Oper {
-            p: q,
-            r: r as u8,
-            hit: true,
+            p: k.p,
+            rank: Some(k.r as u8),
         };
     }
-    Oper {
-        p: q,
-        r: 0,
-        hit: false,
-    }
+    Oper { p: k.p, rank: None }
 }
 
 // Where the reader is behind one flag, or behind them all; 1 where `inbounds` was among them.

@@ -8,6 +8,7 @@ ghost use Rattle.lexer.specs.Reads.{Leads, Reads, Counts, made, same};
 
 use lexer::Parsed;
 use types::Listed;
+use value_leaves::{BIN_OPS, CONV_OPS};
 
 // Typed values behind commas, through the closing byte, behind the opening one (`parse_array_const`, `parse_struct_const`).
 #[cycle(value_readers)]
@@ -189,17 +190,15 @@ fn const_exprs(
         let q = lexer::pass_word(text, p, b"getelementptr");
         return parse_ce_gep(text, words, q, depth);
     }
-    let c = value_leaves::match_conv_op(text, p);
-    let q = c.p;
-    if c.hit {
-        return parse_ce_conv(text, words, q, c.r, depth);
+    let c = value_leaves::match_op(text, p, &CONV_OPS);
+    if let Some(op) = c.rank {
+        return parse_ce_conv(text, words, c.p, op, depth);
     }
-    let b = value_leaves::match_bin_op(text, q);
-    let q1 = b.p;
-    if b.hit {
-        return parse_ce_bin(text, words, q1, b.r, depth);
+    let b = value_leaves::match_op(text, c.p, &BIN_OPS);
+    if let Some(op) = b.rank {
+        return parse_ce_bin(text, words, b.p, op, depth);
     }
-    lexer::refuse(q1, records::Q_VALUE)
+    lexer::refuse(b.p, records::Q_VALUE)
 }
 
 // A value (`parse_value`).

@@ -1,3 +1,1 @@
 pub mod ReportLaws
-pub mod StepReports
-pub mod MapReports

@@ -6,7 +6,7 @@ use Rattle.std.specs.Prelude.{List, ℕ}
 use Rattle.grammar.specs.Function.{reading_of}
 use Rattle.trees.specs.Function.{Function}
 use Rattle.channel_spec.specs.declared.Rule.{Rule}
-use Rattle.channel_spec.specs.declared.Told.{Told}
+use Rattle.channel_spec.specs.Told.{Told}
 use Rattle.channel_spec.specs.Fires.{function_fires, nth}
 use Rattle.channel_spec.specs.Answers.{ruling, channel_rule}
 use Rattle.theorem_channel.specs.Channels.{accepted_fires}

@@ -6,8 +6,7 @@ use Rattle.records.specs.Questions.{q_output}
 use Rattle.records.specs.Pieces.{Answer, refused_at, count, Left, left, Again, again_left}
 use Rattle.trees.specs.Steps.{Part, part}
 use Rattle.map_spec.specs.Buffer.{Outcome, drawn, too_long}
-use Rattle.channel_spec.specs.declared.Told.{Told}
-use Rattle.channel_spec.specs.declared.Told.TheVariants as told
+use Rattle.channel_spec.specs.Told.{Told, Answer as told, Refused as refused}
 use Rattle.channel_spec.specs.Answers.{answer_none}
 
 -- the question that refuses, or 0; the place, 0 where it is accepted; the entry count, 0 where it is refused
@@ -48,5 +47,5 @@ pub data ReportsMap : Outcome → (r place length : ℕ) (map : List ℕ) → Ty
 
 -- Channel rules: 0, place 0 and the answer; or the number of the question that refuses the table, its place, and the answer for none.
 pub data ReportsChannel : Told → (r place answer : ℕ) → Type 0 where
-  answered : {a : ℕ} → ReportsChannel (told.Answer a) 0 0 a
-  turned_away : {q p : ℕ} → ReportsChannel (told.Refused q p) q p answer_none
+  answered : {a : ℕ} → ReportsChannel (told a) 0 0 a
+  turned_away : {q p : ℕ} → ReportsChannel (refused q p) q p answer_none

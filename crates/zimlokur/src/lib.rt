@@ -5,15 +5,13 @@ ghost use Rattle.std.specs.Prelude.{◌≡◌, length};
 ghost use Rattle.grammar.specs.Function.{reading_of, rereading_of};
 ghost use Rattle.text_lines.specs.Place.{position_of};
 ghost use Rattle.trees.specs.Steps.{child_of, next_of, part_of};
+ghost use Rattle.record_steps.specs.Views.{reached};
 ghost use Rattle.map_spec.specs.Buffer.{block_map};
 ghost use Rattle.channel_spec.specs.Answers.{channel_rule};
 ghost use Rattle.zimlokur.specs.Report.{Reports, ReportsAgain, ReportsStep, ReportsPart, ReportsMap, ReportsChannel};
 
 use channel_spec::{Rule, Told};
-use map_dot::Drawn;
 use reading::{Answer, Reread};
-use record_steps::Step;
-use record_steps::names::Text;
 
 // The full reading. Returns 0, or the number of the question that refuses; then both arrays are zero.
 pub fn zimlokur_parse_define(
@@ -80,36 +78,38 @@ pub fn zimlokur_position(text: &[u8], place: u64, line: &mut u64, column: &mut u
     *column = at.column as u64;
 }
 
-// The step to a node's first child. Returns 1 with the place it goes to, or 0 with the place it was asked at.
-pub fn zimlokur_child(words: &[u64], at: u64, to: &mut u64) -> u64
-    ensures { ReportsStep (child_of words.now at) at result to.new }
+// What a step from a place reports: 1 with the place it goes to, or 0 with the place it was asked at.
+fn report_step(step: Option<usize>, at: u64, to: &mut u64) -> u64
+    ensures { ReportsStep (reached step) at result to.new }
 {
-    match record_steps::child(words, at as usize) {
-        Step::To(place) => {
+    match step {
+        Some(place) => {
             *to = place as u64;
             1
         }
-        Step::Nothing => {
+        None => {
             *to = at;
             0
         }
     }
 }
 
+// The step to a node's first child. Returns 1 with the place it goes to, or 0 with the place it was asked at.
+pub fn zimlokur_child(words: &[u64], at: u64, to: &mut u64) -> u64
+    ensures { ReportsStep (child_of words.now at) at result to.new }
+{
+    report_step(record_steps::child(words, at as usize), at, to)
+}
+
 // The step to the next node below an end. Returns 1 with the place it goes to, or 0 with the place it was asked at.
 pub fn zimlokur_next(words: &[u64], at: u64, end: u64, to: &mut u64) -> u64
     ensures { ReportsStep (next_of words.now at end) at result to.new }
 {
-    match record_steps::next(words, at as usize, end as usize) {
-        Step::To(place) => {
-            *to = place as u64;
-            1
-        }
-        Step::Nothing => {
-            *to = at;
-            0
-        }
-    }
+    report_step(
+        record_steps::next(words, at as usize, end as usize),
+        at,
+        to,
+    )
 }
 
 // The text of a name. Returns 1 with the part's start and length in the piece, or 0 with both 0.
@@ -117,12 +117,12 @@ pub fn zimlokur_name(piece: &[u8], name: u64, start: &mut u64, len: &mut u64) ->
     ensures { ReportsPart (part_of (length piece.now) name) result start.new len.new }
 {
     match record_steps::names::part(piece, name) {
-        Text::Part(from, bytes) => {
-            *start = from as u64;
-            *len = bytes as u64;
+        Some(text) => {
+            *start = text.start as u64;
+            *len = text.length as u64;
             1
         }
-        Text::Nothing => {
+        None => {
             *start = 0;
             *len = 0;
             0
@@ -142,14 +142,13 @@ pub fn zimlokur_block_map(
 ) -> u64
     ensures { ReportsMap (block_map (length map.old) entries text.now words.now directory.now) result place.new len.new map.new }
 {
+    *place = 0;
     match map_dot::block_map(text, words, directory, entries as usize, map) {
-        Drawn::Map(n) => {
-            *place = 0;
+        Some(n) => {
             *len = n as u64;
             0
         }
-        Drawn::TooLong => {
-            *place = 0;
+        None => {
             *len = 0;
             records::Q_OUTPUT
         }
@@ -161,15 +160,15 @@ fn report(told: Told, place: &mut u64, answer: &mut u64) -> u64
     ensures { ReportsChannel told result place.new answer.new }
 {
     match told {
-        Told::Answer(a) => {
+        Ok(a) => {
             *place = 0;
             *answer = a;
             0
         }
-        Told::Refused(q, p) => {
-            *place = p;
+        Err(refusal) => {
+            *place = refusal.place as u64;
             *answer = channel_spec::ANSWER_NONE;
-            q
+            refusal.question
         }
     }
 }

@@ -84,12 +84,6 @@ returns-then-r-lt19 c =
       over = λ e u. true_false (sym e);
     }
 
-pub eat_ws-q8-requires : goal.eat_ws-q8-requires
-eat_ws-q8-requires c = c.requires
-
-pub parse_int-n-requires : goal.parse_int-n-requires
-parse_int-n-requires c = c.requires
-
 pub returns-then-word-2 : goal.returns-then-word-2
 unfolding skip_attrs_in paren_attrs flag_attrs group_digits ◌>>=◌
 returns-then-word-2 c =

@@ -1,8 +1,7 @@
--- The table's words, words_of by their lengths, are those of the definition.
+-- The table's words are those of the definition.
 use Rattle.attributes.specs.Step.{no_attrs}
-use Rattle.lexer.specs.Table.{words_of}
 use Rattle.attributes.proofs.no_attr.Goals as goal
 
 pub returns : goal.returns
-unfolding no_attrs words_of
+unfolding no_attrs
 returns c = c.match_rank.ensures

@@ -1,8 +1,7 @@
--- The table's words, words_of by their lengths, are those of the definition.
+-- The table's words are those of the definition.
 use Rattle.grammar.specs.Attributes.{fast_math_flags, skip_fast_math_flags}
-use Rattle.lexer.specs.Table.{words_of}
 use Rattle.attributes.proofs.skip_fast_math_flags.Goals as goal
 
 pub returns : goal.returns
-unfolding fast_math_flags skip_fast_math_flags words_of
+unfolding fast_math_flags skip_fast_math_flags
 returns c = c.skip_all.ensures

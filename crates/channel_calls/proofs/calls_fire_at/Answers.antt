@@ -6,13 +6,13 @@ use Rattle.channel_calls.proofs.calls_fire_at.Goals as goal
 
 pub returns-then-node-at : goal.returns-then-node-at
 returns-then-node-at c =
-    rw c.in-To.is
+    rw c.in-Some.is
     (past_fire _ c.args.node.now _ c.if-node-at.true)
 
-pub returns-in-To : goal.returns-in-To
+pub returns-else-node-at : goal.returns-else-node-at
 unfolding calls_fire_at
-returns-in-To c = c.is_fire.ensures ∙ rw (c.in-To.is, c.kind_in-kind.ensures, c.word_at.ensures, c.word_at-in-To.ensures)
+returns-else-node-at c = c.is_fire.ensures ∙ rw (c.in-Some.is, c.kind_in-kind.ensures, c.word_at.ensures, c.word_at-in-Some.ensures)
 
-pub returns-in-Nothing : goal.returns-in-Nothing
+pub returns-in-None : goal.returns-in-None
 unfolding calls_fire_at
-returns-in-Nothing c = rw c.in-Nothing.is
+returns-in-None c = rw c.in-None.is

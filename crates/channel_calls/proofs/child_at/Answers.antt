@@ -1,32 +1,26 @@
 use mathlib.Core.Path.{◌≡◌, sym, ap, ◌∙◌}
+use Prim.Native.Nat.{◌+◌}
 use native.Mathlib.Omega.{arith}
-use Prim.Native.Nat.{ℕ, ◌-◌}
 use Rattle.channel_spec.specs.Fires.{child_at}
 use Rattle.record_steps.specs.Views.{reached}
 use Rattle.channel_calls.proofs.Nodes.{child_next, child_none}
 use Rattle.channel_calls.proofs.child_at.Goals as goal
 
-pub loop-left-init : goal.loop-left-init
+pub returns-in_err-at : goal.returns-in_err-at
 unfolding child_at
-loop-left-init c =
-    let z : c.args.number - c.args.number ≡ 0 = omega arith in
-    (c.child-at.ensures ∙ ap (λ (j : ℕ). child_at j c.args.node.now) (sym z), omega arith)
+returns-in_err-at c = rw c.from_residual.ensures (sym (child_none 0 c.args.number c.args.node.now (omega arith) (sym c.child.ensures ∙ ap reached c.in_err-at.was)))
 
-pub returns-in-Nothing : goal.returns-in-Nothing
-returns-in-Nothing c =
-    sym
-    (child_none c.args.number c.loop-left.left c.args.node.now c.loop-left.invariant.1
-    (sym c.loop-left.invariant.0 ∙ ap reached c.in-Nothing.is))
+pub loop-i-init : goal.loop-i-init
+unfolding child_at
+loop-i-init c = sym c.child.ensures ∙ ap reached c.in_ok-at.was
 
-pub loop-left-preserved : goal.loop-left-preserved
-loop-left-preserved c = (
-  c.next-at.ensures ∙ sym
-      (child_next c.args.number c.loop-left.left c.args.node.now _ c.loop-left-test.true c.loop-left.invariant.1
-      (sym c.loop-left.invariant.0 ∙ ap reached c.in-To.is)),
-  omega arith,
-)
+pub returns-in_err-at-2 : goal.returns-in_err-at-2
+returns-in_err-at-2 c =
+    rw c.from_residual-in_err-at-2.ensures
+    (sym (child_none (c.loop-i._i + 1) c.args.number c.args.node.now (omega arith) (child_next c.loop-i._i c.args.node.now c.loop-i.at c.loop-i.invariant ∙ sym c.next.ensures ∙ ap reached c.in_err-at-2.was)))
+
+pub loop-i-preserved : goal.loop-i-preserved
+loop-i-preserved c = child_next c.loop-i._i c.args.node.now c.loop-i.at c.loop-i.invariant ∙ sym c.next.ensures ∙ ap reached c.in_ok-at-2.was
 
 pub returns : goal.returns
-returns c =
-    let z : c.args.number - c.loop-left.left ≡ c.args.number = omega arith in
-    c.loop-left.invariant.0 ∙ ap (λ (j : ℕ). child_at j c.args.node.now) z
+returns c = let z : c.loop-i._i ≡ c.args.number = omega arith in sym (rw z at c.loop-i.invariant)

@@ -1,26 +1,31 @@
-use mathlib.Core.Path.{sym, ap, ◌∙◌}
+use mathlib.Core.Path.{◌≡◌, sym, ap, ◌∙◌}
 use mathlib.Core.Option.{some}
-use Prim.Native.Nat.{◌-◌}
+use Prim.Native.Nat.{◌+◌, ◌-◌}
+use native.Mathlib.Omega.{arith}
 use Rattle.record_steps.specs.Views.{reached}
 use Rattle.channel_calls.proofs.Seeks.{from_turn, from_none, from_done}
 use Rattle.channel_calls.proofs.seek_from.Goals as goal
 
-pub returns-in-Found : goal.returns-in-Found
-returns-in-Found c =
-    sym (from_turn c.loop-left.more c.loop-left.left c.args.piece.now c.args.own.now _ c.loop-left.at _ c.loop-left-test.true c.node_at.ensures
-    (sym c.seek_here.ensures ∙ c.in-Found.is)) ∙ c.loop-left.invariant
+pub loop-i-init : goal.loop-i-init
+loop-i-init c = let z : c.args.n - 0 ≡ c.args.n = omega arith in rw z
 
-pub returns-in-Nothing : goal.returns-in-Nothing
-returns-in-Nothing c =
-    let f = sym c.next.ensures ∙ ap reached c.in-Nothing.is in
-    let t = from_turn c.loop-left.more c.loop-left.left c.args.piece.now c.args.own.now _ c.loop-left.at _ c.loop-left-test.true c.node_at.ensures (sym c.seek_here.ensures ∙ c.in-Left.is) in
-    sym (from_none _ (c.loop-left.left - 1) c.args.piece.now c.args.own.now) ∙ sym (rw f at t) ∙ c.loop-left.invariant
+pub returns-in_err-more : goal.returns-in_err-more
+returns-in_err-more c =
+    c.from_residual.ensures ∙ sym
+    (from_turn c.loop-i.more (c.args.n - c.loop-i._i) c.args.piece.now c.args.own.now _ c.loop-i.at _ (omega arith) c.node_at.ensures (sym c.seek_here.ensures ∙ c.in_err-more.was)) ∙ c.loop-i.invariant
 
-pub loop-left-preserved : goal.loop-left-preserved
-loop-left-preserved c =
-    let f = sym c.next.ensures ∙ ap reached c.in-To.is in
-    let t = from_turn c.loop-left.more c.loop-left.left c.args.piece.now c.args.own.now _ c.loop-left.at _ c.loop-left-test.true c.node_at.ensures (sym c.seek_here.ensures ∙ c.in-Left.is) in
-    sym (rw f at t) ∙ c.loop-left.invariant
+pub returns-in-None : goal.returns-in-None
+returns-in-None c =
+    let f = sym c.next.ensures ∙ ap reached c.in-None.is in
+    let t = from_turn c.loop-i.more (c.args.n - c.loop-i._i) c.args.piece.now c.args.own.now _ c.loop-i.at _ (omega arith) c.node_at.ensures (sym c.seek_here.ensures ∙ c.in_ok-more.was) in
+    sym (from_none _ (c.args.n - c.loop-i._i - 1) c.args.piece.now c.args.own.now) ∙ sym (rw f at t) ∙ c.loop-i.invariant
+
+pub loop-i-preserved : goal.loop-i-preserved
+loop-i-preserved c =
+    let z : c.args.n - (c.loop-i._i + 1) ≡ c.args.n - c.loop-i._i - 1 = omega arith in
+    let f = sym c.next.ensures ∙ ap reached c.in-Some.is in
+    let t = from_turn c.loop-i.more (c.args.n - c.loop-i._i) c.args.piece.now c.args.own.now _ c.loop-i.at _ (omega arith) c.node_at.ensures (sym c.seek_here.ensures ∙ c.in_ok-more.was) in
+    rw z (sym (rw f at t) ∙ c.loop-i.invariant)
 
 pub returns : goal.returns
-returns c = sym (from_done c.loop-left.more c.loop-left.left c.args.piece.now c.args.own.now (some c.loop-left.at) c.loop-left-test.false) ∙ c.loop-left.invariant
+returns c = sym (from_done c.loop-i.more (c.args.n - c.loop-i._i) c.args.piece.now c.args.own.now (some c.loop-i.at) (omega arith)) ∙ c.loop-i.invariant

@@ -1,7 +1,7 @@
 -- The tests of the code are those of the definition, in its order.
 use mathlib.Core.Path.{sym, ap, ◌∙◌}
 use native.Mathlib.Omega.{arith}
-use Rattle.channel_calls.specs.declared.Search.TheVariants.{Found}
+use Rattle.std.specs.declared.ops.ControlFlow.TheVariants.{Break}
 use Rattle.channel_calls.proofs.Nodes.{callee_small}
 use Rattle.channel_calls.proofs.Seeks.{not_call, not_fire, fire_passed, fire_found}
 use Rattle.channel_calls.proofs.seek_here.Goals as goal
@@ -31,7 +31,7 @@ overflow_add-callee c =
 
 pub returns : goal.returns
 returns c =
-    ap Found (c.constant_at.ensures ∙ rw (c.child_at-2.ensures, c.callee_place-callee.ensures, c.detail_in.ensures))
+    ap Break (c.constant_at.ensures ∙ rw (c.child_at-2.ensures, c.callee_place-callee.ensures, c.detail_in.ensures))
     ∙ fire_found c.args.k c.args.piece.now c.args.node.now _ c.word_at-header.ensures (sym c.kind_in.ensures ∙ c.if-kind_in-ne-K_CALL.false)
     (rw (← c.detail_in.ensures, ← c.callee_place-callee.ensures, ← c.child_at.ensures, ← c.calls_fire_at.ensures) (c.if-not-calls_fire_at.false))
     c.if-k-gt0.false

@@ -18,9 +18,6 @@ use mathlib.Core.Path.{ap, ◌∙◌}
 use native.Mathlib.Omega.{arith}
 use Rattle.inst_calls.proofs.call_node.Goals as goal
 
-pub call_rest-q6-requires : goal.call_rest-q6-requires
-call_rest-q6-requires c = c.requires
-
 pub shape_of-words-then-looks : goal.shape_of-words-then-looks
 shape_of-words-then-looks c =
     c.call_rest-q6.auto.words ∙ c.func_type-q5.auto.words ∙ c.parse_type-q2.auto.words ∙ c.begin-q.auto.words

@@ -19,7 +19,7 @@ shape_of-words-then-room-k c = c.loop-k.invariant.2
 pub returns-then-room-k : goal.returns-then-room-k
 returns-then-room-k c =
     λ h. c.loop-k.invariant.1 ∙ copied_out _ _ _ _ _ c.loop-k.invariant.0
-    (omega (arith, c.minus-room.ensures))
+    (omega (arith, c.saturating_sub-room.ensures))
 
 pub loop-k-preserved : goal.loop-k-preserved
 loop-k-preserved c = (

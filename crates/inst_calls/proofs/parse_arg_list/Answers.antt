@@ -1,3 +1,4 @@
+use Rattle.std.proofs.lemmas.Bool.{not-false, not-true}
 use Rattle.inst_calls.proofs.CallLaws.{args_of, args_more, args_end}
 use Rattle.grammar.specs.Instructions.{parse_arg_list}
 use Rattle.types.proofs.TypeLaws.{dots_here, dots_out}
@@ -30,21 +31,21 @@ returns-then-looks-2 c =
 pub loop-left-preserved : goal.loop-left-preserved
 loop-left-preserved c = (
   go_on c.loop-left.invariant.0
-      (λ ws. args_more c.loop-left._left c.loop-left.m _ c.loop-left-test.true c.eat_ws-q-in-loop-left.ensures c.looks-in-loop-left.ensures c.if-looks-2.false c.arg_item-x.ensures ws c.comma_or-e.ensures c.if-e.true),
+      (λ ws. args_more c.loop-left._left c.loop-left.m _ c.loop-left-test.true c.eat_ws-q-in-loop-left.ensures c.looks-in-loop-left.ensures c.if-looks-2.false c.arg_item-x.ensures ws c.comma_or-e.ensures (not-false _ c.if-not-e.false)),
   c.arg_item-x.auto.words ∙ c.loop-left.invariant.1,
 )
 
-pub shape_of-words-else-e : goal.shape_of-words-else-e
-shape_of-words-else-e c = c.arg_item-x.auto.words ∙ c.loop-left.invariant.1
+pub shape_of-words-then-not-e : goal.shape_of-words-then-not-e
+shape_of-words-then-not-e c = c.arg_item-x.auto.words ∙ c.loop-left.invariant.1
 
-pub returns-else-e : goal.returns-else-e
+pub returns-then-not-e : goal.returns-then-not-e
 unfolding parse_arg_list
-returns-else-e c =
+returns-then-not-e c =
     val _ c.eat_ws-q.ensures
     (byte_no _ _ c.looks.ensures c.if-looks.false
     (call 0 (omega arith)
     (go_on c.loop-left.invariant.0
-    (λ ws. args_end c.loop-left._left c.loop-left.m _ c.loop-left-test.true c.eat_ws-q-in-loop-left.ensures c.looks-in-loop-left.ensures c.if-looks-2.false c.arg_item-x.ensures ws c.comma_or-e.ensures c.if-e.false))))
+    (λ ws. args_end c.loop-left._left c.loop-left.m _ c.loop-left-test.true c.eat_ws-q-in-loop-left.ensures c.looks-in-loop-left.ensures c.if-looks-2.false c.arg_item-x.ensures ws c.comma_or-e.ensures (not-true _ c.if-not-e.true)))))
 
 pub shape_of-words : goal.shape_of-words
 shape_of-words c = c.loop-left.invariant.1

@@ -5,68 +5,49 @@ use Rattle.inst_operands.specs.Trailing.{align_of}
 use Rattle.grammar.specs.Instructions.{clauses_in}
 use Prim.Native.Nat.{◌-◌}
 use mathlib.Core.Path.{refl, ◌∙◌}
+use mathlib.Core.Bool.{true, false}
+use Rattle.std.specs.Prelude.{Some, None}
 use Rattle.inst_memory.proofs.alloca_rest.Goals as goal
 
 pub loop-left-init : goal.loop-left-init
 unfolding counted align_of
-loop-left-init c = (stay (λ ws. counting 16777217 (counted 0 ws) (align_of 0 0)), refl)
-
-pub eat_ws-q-requires : goal.eat_ws-q-requires
-eat_ws-q-requires c = c.requires
-
-pub eat_ws-q-requires-then-looks : goal.eat_ws-q-requires-then-looks
-eat_ws-q-requires-then-looks c = c.requires
-
-pub word-requires : goal.word-requires
-word-requires c = c.requires
-
-pub eat_ws-q-requires-then-word : goal.eat_ws-q-requires-then-word
-eat_ws-q-requires-then-word c = c.requires
-
-pub parse_int-k-requires : goal.parse_int-k-requires
-parse_int-k-requires c = c.requires
+loop-left-init c = (stay (λ ws. counting 16777217 (counted false ws) (align_of None)), refl)
 
 pub loop-left-preserved-then-word : goal.loop-left-preserved-then-word
 unfolding clauses_in align_of
 loop-left-preserved-then-word c = (
   go_on c.loop-left.invariant.0
-      (λ ws. more (λ u. counting u (counted c.loop-left.n ws) (align_of c.loop-left.has c.loop-left.v)) c.loop-left._left c.loop-left-test.true
+      (λ ws. more (λ u. counting u (counted c.loop-left.counted ws) (align_of c.loop-left.align)) c.loop-left._left c.loop-left-test.true
       (token_yes _ _ c.eat_ws-q.ensures c.looks.ensures c.if-looks.true c.pass-q.ensures
       (val _ c.eat_ws-q-then-looks.ensures
       (word_yes _ _ c.word.ensures c.if-word.true c.pass_word-q.ensures
       (val _ c.eat_ws-q-then-word.ensures
       (val _ c.parse_int-k.ensures
       (stay
-      (λ ws. counting (c.loop-left._left - 1) (counted c.loop-left.n ws) (align_of 1 _))))))))),
+      (λ ws. counting (c.loop-left._left - 1) (counted c.loop-left.counted ws) (align_of (Some _)))))))))),
   c.loop-left.invariant.1,
 )
-
-pub skip_metadata_ref-q-requires : goal.skip_metadata_ref-q-requires
-skip_metadata_ref-q-requires c = c.requires
 
 pub loop-left-preserved-then-looks-2 : goal.loop-left-preserved-then-looks-2
 unfolding clauses_in
 loop-left-preserved-then-looks-2 c = (
   go_on c.loop-left.invariant.0
-      (λ ws. more (λ u. counting u (counted c.loop-left.n ws) (align_of c.loop-left.has c.loop-left.v)) c.loop-left._left c.loop-left-test.true
+      (λ ws. more (λ u. counting u (counted c.loop-left.counted ws) (align_of c.loop-left.align)) c.loop-left._left c.loop-left-test.true
       (token_yes _ _ c.eat_ws-q.ensures c.looks.ensures c.if-looks.true c.pass-q.ensures
       (val _ c.eat_ws-q-then-looks.ensures
       (word_no _ _ c.word.ensures c.if-word.false
       (byte_yes _ _ c.looks-else-word.ensures c.if-looks-2.true c.pass-q-then-looks-2.ensures
       (val _ c.skip_metadata_ref-q.ensures
       (stay
-      (λ ws. counting (c.loop-left._left - 1) (counted c.loop-left.n ws) (align_of c.loop-left.has c.loop-left.v))))))))),
+      (λ ws. counting (c.loop-left._left - 1) (counted c.loop-left.counted ws) (align_of c.loop-left.align))))))))),
   c.loop-left.invariant.1,
 )
-
-pub parse_typed_val-q-requires : goal.parse_typed_val-q-requires
-parse_typed_val-q-requires c = c.requires
 
 pub loop-left-preserved : goal.loop-left-preserved
 unfolding clauses_in counted
 loop-left-preserved c = (
   go_on c.loop-left.invariant.0
-      (λ ws. more (λ u. counting u (counted c.loop-left.n ws) (align_of c.loop-left.has c.loop-left.v)) c.loop-left._left c.loop-left-test.true
+      (λ ws. more (λ u. counting u (counted c.loop-left.counted ws) (align_of c.loop-left.align)) c.loop-left._left c.loop-left-test.true
       (token_yes _ _ c.eat_ws-q.ensures c.looks.ensures c.if-looks.true c.pass-q.ensures
       (val _ c.eat_ws-q-then-looks.ensures
       (word_no _ _ c.word.ensures c.if-word.false
@@ -74,7 +55,7 @@ loop-left-preserved c = (
       (rewind c.resume-q.ensures
       (then _ c.parse_typed_val-q.ensures
       (λ x. stay
-      (λ ws. counting (c.loop-left._left - 1) (counted 1 ws) (align_of c.loop-left.has c.loop-left.v)))))))))),
+      (λ ws. counting (c.loop-left._left - 1) (counted true ws) (align_of c.loop-left.align)))))))))),
   c.parse_typed_val-q.auto.words ∙ c.loop-left.invariant.1,
 )
 
@@ -85,7 +66,7 @@ pub returns-else-looks : goal.returns-else-looks
 unfolding clauses_in
 returns-else-looks c =
     go_on c.loop-left.invariant.0
-    (λ ws. more (λ u. counting u (counted c.loop-left.n ws) (align_of c.loop-left.has c.loop-left.v)) c.loop-left._left c.loop-left-test.true
+    (λ ws. more (λ u. counting u (counted c.loop-left.counted ws) (align_of c.loop-left.align)) c.loop-left._left c.loop-left-test.true
     (token_no _ _ c.eat_ws-q.ensures c.looks.ensures c.if-looks.false done))
 
 pub shape_of-words : goal.shape_of-words
@@ -95,5 +76,5 @@ pub returns : goal.returns
 unfolding clauses_in
 returns c =
     go_on c.loop-left.invariant.0
-    (λ ws. no_more (λ u. counting u (counted c.loop-left.n ws)
-    (align_of c.loop-left.has c.loop-left.v)) c.loop-left._left c.loop-left-test.false done)
+    (λ ws. no_more (λ u. counting u (counted c.loop-left.counted ws)
+    (align_of c.loop-left.align)) c.loop-left._left c.loop-left-test.false done)

@@ -10,4 +10,4 @@ use mathlib.Core.Path.{◌≡◌}
 use Rattle.inst_memory.proofs.alloca_rest.Given as goal
 
 abbrev pub invariant-loop-left : goal.invariant-loop-left
-invariant-loop-left l = Leads (counting 16777217 none []) 0 [] (reach (λ ws. counting l._left (counted l.n ws) (align_of l.has l.v)) l.text l.p) l.text l.p l.p l.initial.words l.q l.words × (length l.words ≡ length l.initial.words)
+invariant-loop-left l = Leads (counting 16777217 none []) 0 [] (reach (λ ws. counting l._left (counted l.counted ws) (align_of l.align)) l.text l.p) l.text l.p l.p l.initial.words l.q l.words × (length l.words ≡ length l.initial.words)

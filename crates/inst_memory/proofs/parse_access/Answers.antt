@@ -10,9 +10,6 @@ use Rattle.inst_memory.proofs.MemoryLaws.{align_none, align_some}
 use Rattle.grammar.specs.Instructions.{access}
 use Rattle.inst_memory.proofs.parse_access.Goals as goal
 
-pub end-requires : goal.end-requires
-end-requires c = c.requires
-
 pub shape_of-words-then-is_atomic : goal.shape_of-words-then-is_atomic
 shape_of-words-then-is_atomic c =
     c.end.auto.words ∙ c.access_operands-q4.auto.words ∙ c.begin-q.auto.words
@@ -28,34 +25,31 @@ returns-then-is_atomic c =
     (λ x. val _ c.skip_atomic_ordering-q5.ensures
     (spare 0 (omega arith) (c.end.ensures _)))))))
 
-pub access_operands-z-requires : goal.access_operands-z-requires
-access_operands-z-requires c = c.requires
-
-pub shape_of-words-then-t-eq0 : goal.shape_of-words-then-t-eq0
-shape_of-words-then-t-eq0 c =
+pub shape_of-words-in-None : goal.shape_of-words-in-None
+shape_of-words-in-None c =
     c.close.auto.words ∙ c.access_operands-z.auto.words ∙ c.access_operands-q7.auto.words ∙ c.push-q6.auto.words ∙ c.begin-q.auto.words
 
-pub returns-then-t-eq0 : goal.returns-then-t-eq0
+pub returns-in-None : goal.returns-in-None
 unfolding access
-returns-then-t-eq0 c =
+returns-in-None c =
     begin_then _ c.begin-q.ensures
     (val _ c.eat_ws-q1.ensures
     (word_no _ _ c.is_atomic.ensures c.if-is_atomic.false
     (val _ c.skip_volatile-p1.ensures
-    (again _ c.push-q6.ensures c.access_operands-q7.ensures (align_none _ c.if-t-eq0.true c.parse_trailing-t.ensures) c.access_operands-z.ensures c.resume-q9.ensures (λ x. close_is _ _ _ _ c.close.ensures)))))
+    (again _ c.push-q6.ensures c.access_operands-q7.ensures (align_none c.in-None.is c.parse_trailing-t.ensures) c.access_operands-z.ensures c.resume-q9.ensures (λ x. close_is _ _ _ _ c.close.ensures)))))
 
-pub shape_of-words : goal.shape_of-words
-shape_of-words c =
+pub shape_of-words-in-Some : goal.shape_of-words-in-Some
+shape_of-words-in-Some c =
     c.close-2.auto.words ∙ c.patch-q10.auto.words ∙ c.access_operands-q7.auto.words ∙ c.push-q6.auto.words ∙ c.begin-q.auto.words
 
-pub returns : goal.returns
+pub returns-in-Some : goal.returns-in-Some
 unfolding access
-returns c =
+returns-in-Some c =
     begin_then _ c.begin-q.ensures
     (val _ c.eat_ws-q1.ensures
     (word_no _ _ c.is_atomic.ensures c.if-is_atomic.false
     (val _ c.skip_volatile-p1.ensures
     (push_then _ c.push-q6.ensures
     (then _ c.access_operands-q7.ensures
-    (λ x. val _ (align_some _ c.if-t-eq0.false c.parse_trailing-t.ensures)
+    (λ x. val _ (align_some _ c.in-Some.is c.parse_trailing-t.ensures)
     (patch_then 2 _ (0 ∷ _ ∷ []) _ _ refl c.patch-q10.ensures (close_is _ _ _ _ c.close-2.ensures))))))))

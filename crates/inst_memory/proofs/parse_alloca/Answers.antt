@@ -13,6 +13,7 @@ use Rattle.lexer.proofs.Laws.{val, byte_at_yes, byte_at_no, fail_is, spare}
 use Rattle.node_words.proofs.Laws.{begin_then}
 use mathlib.Core.Path.{◌∙◌}
 use native.Mathlib.Omega.{arith}
+use Rattle.std.proofs.lemmas.Bool.{not-false, not-true}
 use Rattle.inst_memory.proofs.parse_alloca.Goals as goal
 
 pub returns-then-looks : goal.returns-then-looks
@@ -23,29 +24,23 @@ returns-then-looks c =
     (dry_type 8 _ c.pass_type-q1.ensures.reads (stuck_paren _) c.join-p2.ensures
     (λ a F. byte_at_yes _ _ c.looks.ensures c.if-looks.true (fail_is _ c.refuse.ensures))))
 
-pub parse_type-z1-requires : goal.parse_type-z1-requires
-parse_type-z1-requires c = c.requires
-
-pub shape_of-words-then-s-eq0 : goal.shape_of-words-then-s-eq0
-shape_of-words-then-s-eq0 c =
+pub shape_of-words-then-not-s : goal.shape_of-words-then-not-s
+shape_of-words-then-not-s c =
     c.close.auto.words ∙ c.parse_type-z1.auto.words ∙ c.push_align-q4.auto.words ∙ c.begin-q.auto.words
 
-pub returns-then-s-eq0 : goal.returns-then-s-eq0
+pub returns-then-not-s : goal.returns-then-not-s
 unfolding parse_alloca no_paren
-returns-then-s-eq0 c =
+returns-then-not-s c =
     begin_then _ c.begin-q.ensures
     (val _ c.skip_inalloca-p1.ensures
     (dry_type 8 _ c.pass_type-q1.ensures.reads (stuck_paren _) c.join-p2.ensures
     (λ a F. byte_at_no _ _ c.looks.ensures c.if-looks.false
     (dry_then _ c.pass_rest-s.ensures.reads c.join-q3.ensures
     (λ ws G. spare (suc (length (type_of a) + (length ws + 0))) (omega arith)
-    (align_then _ _ c.push_align-q4.ensures
-    (again_then (found_on (found_on F (joined_out _ _ c.join-q3.ensures)) (align_out _ _ _ _ c.push_align-q4.ensures)) (shows_typed a) c.resume-z.ensures c.parse_type-z1.ensures c.resume-q5.ensures
+    (align_then _ c.push_align-q4.ensures
+    (again_then (found_on (found_on F (joined_out _ _ c.join-q3.ensures)) (align_out _ _ _ c.push_align-q4.ensures)) (shows_typed a) c.resume-z.ensures c.parse_type-z1.ensures c.resume-q5.ensures
     (enrich
-    (alloca_none _ _ _ _ ws _ c.if-s-eq0.true (c.align_bit-d.ensures _) c.close.ensures)))))))))
-
-pub alloca_rest-s2-requires : goal.alloca_rest-s2-requires
-alloca_rest-s2-requires c = c.requires
+    (alloca_none _ _ _ _ ws _ (not-true _ c.if-not-s.true) c.align_bit-d.ensures c.close.ensures)))))))))
 
 pub shape_of-words : goal.shape_of-words
 shape_of-words c =
@@ -60,9 +55,9 @@ returns c =
     (λ a F. byte_at_no _ _ c.looks.ensures c.if-looks.false
     (dry_then _ c.pass_rest-s.ensures.reads c.join-q3.ensures
     (λ ws G. spare (suc (length (type_of a) + (length ws + 0))) (omega arith)
-    (align_then _ _ c.push_align-q4.ensures
-    (again_then (found_on (found_on F (joined_out _ _ c.join-q3.ensures)) (align_out _ _ _ _ c.push_align-q4.ensures)) (shows_typed a) c.resume-z.ensures c.parse_type-z1.ensures c.resume-q5.ensures
-    (again_then (found_on (found_on G (align_out _ _ _ _ c.push_align-q4.ensures))
-    (resume_out c.parse_type-z1.result c.push_align-q4.result c.resume-q5.ensures)) (shows_count c.pass_rest-s.result.n c.alloca_rest-s2.result.n ws (align_of c.pass_rest-s.result.has c.pass_rest-s.result.v) (align_of c.alloca_rest-s2.result.has c.alloca_rest-s2.result.v) c.if-s-eq0.false) c.resume-z2.ensures c.alloca_rest-s2.ensures c.resume-q6.ensures
+    (align_then _ c.push_align-q4.ensures
+    (again_then (found_on (found_on F (joined_out _ _ c.join-q3.ensures)) (align_out _ _ _ c.push_align-q4.ensures)) (shows_typed a) c.resume-z.ensures c.parse_type-z1.ensures c.resume-q5.ensures
+    (again_then (found_on (found_on G (align_out _ _ _ c.push_align-q4.ensures))
+    (resume_out c.parse_type-z1.result c.push_align-q4.result c.resume-q5.ensures)) (shows_count c.pass_rest-s.result.counted c.alloca_rest-s2.result.counted ws (align_of c.pass_rest-s.result.align) (align_of c.alloca_rest-s2.result.align) (not-false _ c.if-not-s.false)) c.resume-z2.ensures c.alloca_rest-s2.ensures c.resume-q6.ensures
     (enrich
-    (alloca_some _ _ _ _ _ ws _ c.if-s-eq0.false (c.align_bit-d.ensures _) (bit_is c.pass_rest-s.result.has 0 c.align_bit-d.result (c.align_bit-d.ensures 0) c.one_bit-d1.ensures) c.close-2.ensures))))))))))
+    (alloca_some _ _ _ _ _ ws _ (not-false _ c.if-not-s.false) c.align_bit-d.ensures (bit_is c.pass_rest-s.result.align c.align_bit-d.result c.align_bit-d.ensures c.one_bit-d1.ensures) c.close-2.ensures))))))))))

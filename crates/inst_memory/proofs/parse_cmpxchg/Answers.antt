@@ -7,9 +7,6 @@ use Rattle.node_words.proofs.Laws.{begin_then}
 use mathlib.Core.Path.{◌∙◌}
 use Rattle.inst_memory.proofs.parse_cmpxchg.Goals as goal
 
-pub end-requires : goal.end-requires
-end-requires c = c.requires
-
 pub shape_of-words : goal.shape_of-words
 shape_of-words c =
     c.end.auto.words ∙ c.parse_operand-q.auto.words ∙ c.pointer_then_value-q.auto.words ∙ c.begin-q.auto.words

@@ -7,9 +7,6 @@ use Rattle.node_words.proofs.Laws.{begin_then, push_then, patch_then}
 use Rattle.grammar.specs.Instructions.{parse_extractvalue}
 use Rattle.inst_memory.proofs.parse_extractvalue.Goals as goal
 
-pub end-requires : goal.end-requires
-end-requires c = c.requires
-
 pub shape_of-words : goal.shape_of-words
 shape_of-words c =
     c.end.auto.words ∙ c.patch-q.auto.words ∙ c.parse_operand-q.auto.words ∙ c.push-q.auto.words ∙ c.begin-q.auto.words

@@ -1,13 +1,13 @@
 -- The code's calls are the definition's steps in the same order; the predicate's rank is kept for the header, which is written last.
 use Rattle.lexer.proofs.Laws.{val}
 use Rattle.node_words.proofs.Laws.{begin_then}
-use Rattle.grammar.specs.Instructions.{parse_fcmp}
+use Rattle.grammar.specs.Instructions.{parse_fcmp, fcmp_preds}
 use Rattle.inst_operations.proofs.parse_fcmp.Goals as goal
 
 pub returns : goal.returns
-unfolding parse_fcmp
+unfolding parse_fcmp fcmp_preds
 returns c =
     begin_then _ c.begin-q.ensures
     (val _ c.skip_fast_math_flags-q1.ensures
-    (val _ c.parse_fcmp_pred-k.ensures
+    (val _ c.parse_predicate-k.ensures
     (c.binary.ensures _)))

@@ -8,9 +8,6 @@ use Rattle.inst_operations.proofs.phi_items.Goals as goal
 pub loop-left-init : goal.loop-left-init
 loop-left-init c = (stay (phi_items 65536 1), refl)
 
-pub eat_ws-q-requires : goal.eat_ws-q-requires
-eat_ws-q-requires c = c.requires
-
 pub overflow_sub-left : goal.overflow_sub-left
 overflow_sub-left c = omega (arith, c.loop-left-test.true)
 

@@ -18,9 +18,6 @@ returns-then-word c =
     (wrote 2 (omega arith) (c.label_node-q4.ensures _)
     (c.end.ensures _)))))
 
-pub end-requires-2 : goal.end-requires-2
-end-requires-2 c = c.requires
-
 pub shape_of-words : goal.shape_of-words
 shape_of-words c =
     c.end-2.auto.words ∙ c.label_node-q9.auto.words ∙ c.label_node-q7.auto.words ∙ c.parse_operand-q5.auto.words ∙ c.push-q.auto.words

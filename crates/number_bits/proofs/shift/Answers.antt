@@ -1,16 +1,14 @@
--- Ten times the value and the digit fit 64 bits exactly where the code's two tests say so.
-use native.Mathlib.Omega.{arith}
-use Rattle.number_bits.proofs.Shifts.{shift_fits, shift_over, shift_still}
+-- Ten times the value and the digit fit 64 bits exactly where std's two checked steps say so.
+use mathlib.Core.Path.{◌∙◌}
+use Rattle.number_bits.proofs.Shifts.{shift_stays, shift_over, shift_sum}
 use Rattle.number_bits.proofs.shift.Goals as goal
 
-pub returns-then-y-x : goal.returns-then-y-x
-returns-then-y-x c = shift_fits _ _ _ c.in-Exact.is (omega arith)
+pub returns-in_err-n : goal.returns-in_err-n
+returns-in_err-n c = c.from_residual.ensures ∙ shift_stays _ _ c.in_err-n.was
 
-pub returns-else-y-x : goal.returns-else-y-x
-returns-else-y-x c = shift_over _ c.in-Exact.v _ c.in-Exact.is (omega arith)
+pub returns-in_err-checked_mul : goal.returns-in_err-checked_mul
+returns-in_err-checked_mul c =
+    c.from_residual-in_err-checked_mul.ensures ∙ shift_over _ _ _ c.in_ok-n.was c.in_err-checked_mul.ensures
 
-pub returns-else-v : goal.returns-else-v
-returns-else-v c = shift_over _ c.in-Exact.v _ c.in-Exact.is (omega arith)
-
-pub returns-in-Over : goal.returns-in-Over
-returns-in-Over c = shift_still _ _ c.in-Over.is
+pub returns : goal.returns
+returns c = shift_sum _ _ _ _ _ _ c.in_ok-n.was c.in_ok-checked_mul.ensures.1 c.from.ensures c.checked_add.ensures

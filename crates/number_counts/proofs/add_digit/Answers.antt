@@ -5,5 +5,5 @@ use Rattle.number_counts.proofs.add_digit.Goals as goal
 pub returns-then-b-eq95 : goal.returns-then-b-eq95
 returns-then-b-eq95 c = add_none _ _ c.if-b-eq95.true
 
-pub returns : goal.returns
-returns c = add_some _ _ _ _ c.if-b-eq95.false c.class-d.ensures c.shift.ensures
+pub returns-else-b-eq95 : goal.returns-else-b-eq95
+returns-else-b-eq95 c = add_some _ _ _ _ c.if-b-eq95.false c.class.ensures c.shift.ensures

@@ -6,24 +6,28 @@ use borrow.Author.Rules.{rules}
 use Rattle.number_decimals.proofs.Bits.{few_bits, next_bit}
 use Rattle.number_decimals.proofs.scaled.Goals as goal
 
-few : (c : goal.After-doubled-p) → c.loop-q.n < 104
+few : (c : goal.After-doubled-parts) → c.loop-parts.n < 104
 few c =
-    let a = c.before.before.before in
-    let l = c.loop-q in
-    few_bits (a.args.q0 * a.args.d + a.args.rest0) a.args.d l.q l.rest l.n a.requires.0 l.invariant.0 c.loop-q-test.true l.invariant.1 a.requires.3
+    let l = c.loop-parts in
+    few_bits (c.args.start.q * c.args.d + c.args.start.rest) c.args.d l.parts.q l.parts.rest l.n c.requires.0 l.invariant.value c.loop-parts-test.true l.invariant.left c.requires.3
 
-pub loop-q-init : goal.loop-q-init
-loop-q-init c = (sym (mul-one _), search rules, search rules, search rules)
+pub loop-parts-init : goal.loop-parts-init
+loop-parts-init c = record { value = sym (mul-one _); left = search rules; short = search rules; few = search rules }
 
-pub loop-q-smaller : goal.loop-q-smaller
-loop-q-smaller c = (let k = few c in omega arith)
+pub loop-parts-smaller : goal.loop-parts-smaller
+loop-parts-smaller c = (let k = few c in omega arith)
 
-pub loop-q-preserved : goal.loop-q-preserved
-loop-q-preserved c =
-    let a = c.before.before.before in
-    let l = c.loop-q in
+pub loop-parts-preserved : goal.loop-parts-preserved
+loop-parts-preserved c =
+    let l = c.loop-parts in
     let k = few c in
-    (next_bit (a.args.q0 * a.args.d + a.args.rest0) a.args.d l.q l.rest _ _ l.n l.invariant.0 c.doubled-p.ensures.value, c.doubled-p.ensures.left, c.doubled-p.ensures.short, omega arith)
+    record {
+      value = next_bit (c.args.start.q * c.args.d + c.args.start.rest) c.args.d l.parts.q l.parts.rest _ _ l.n l.invariant.value c.doubled-parts.ensures.value;
+      left = c.doubled-parts.ensures.left;
+      short = c.doubled-parts.ensures.short;
+      few = omega arith;
+    }
 
 pub returns : goal.returns
-returns c = let l = c.loop-q in record { value = l.invariant.0; left = l.invariant.1; long = c.loop-q-test.false; short = l.invariant.2; few = l.invariant.3 }
+returns c =
+    let i = c.loop-parts.invariant in record { value = i.value; left = i.left; long = c.loop-parts-test.false; short = i.short; few = i.few }

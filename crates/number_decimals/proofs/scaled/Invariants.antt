@@ -5,8 +5,14 @@ use mathlib.Core.Path.{◌≡◌}
 use Prim.Native.Nat.{◌+◌, ◌-◌, ◌*◌, ◌^◌, ◌<◌, ◌≤◌}
 use Rattle.number_decimals.proofs.scaled.Given as goal
 
-abbrev pub invariant-loop-q : goal.invariant-loop-q
-invariant-loop-q l = (l.q * l.d + l.rest ≡ (l.q0 * l.d + l.rest0) * 2 ^ l.n) × (l.rest < l.d) × (l.q < 2 ^ 53) × (l.n ≤ 104)
+abbrev pub invariant-loop-parts : goal.invariant-loop-parts
+invariant-loop-parts l =
+    record {
+      value : l.parts.q * l.d + l.parts.rest ≡ (l.fn.start.q * l.d + l.fn.start.rest) * 2 ^ l.n;
+      left : l.parts.rest < l.d;
+      short : l.parts.q < 2 ^ 53;
+      few : l.n ≤ 104;
+    }
 
-abbrev pub decreases-loop-q : goal.decreases-loop-q
-decreases-loop-q l = 104 - l.n
+abbrev pub decreases-loop-parts : goal.decreases-loop-parts
+decreases-loop-parts l = 104 - l.n

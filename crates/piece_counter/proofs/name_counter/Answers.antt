@@ -6,10 +6,8 @@ use Rattle.piece_counter.proofs.name_counter.Goals as goal
 
 pub returns-then-from-end : goal.returns-then-from-end
 returns-then-from-end c =
-    let l = c.least-end in
-    named_as _ _ (sym (part_is _ _ _ l.result l.ensures.2.0 l.ensures.2.1 c.if-from-end.true)) (c.named_raw.ensures _)
+    named_as _ _ (sym (part_is _ _ _ c.min-end.result c.min-end.ensures c.if-from-end.true)) (c.named_raw.ensures _)
 
 pub returns : goal.returns
 returns c =
-    let l = c.least-end in
-    named_as _ _ (part_none _ _ _ l.result l.ensures.2.0 l.ensures.2.1 c.if-from-end.false) (c.named_raw-2.ensures _)
+    named_as _ _ (part_none _ _ _ c.min-end.result c.min-end.ensures c.if-from-end.false) (c.named_raw-2.ensures _)

@@ -10,21 +10,6 @@ use Rattle.types.proofs.TypeLaws.{type_then}
 use Rattle.piece_head.proofs.HeadLaws.{then_paid, linkage_as, stuck_name, shut_is, open_is}
 use Rattle.piece_head.proofs.head_node.Goals as goal
 
-pub parse_global_name-name-requires : goal.parse_global_name-name-requires
-parse_global_name-name-requires c = c.requires
-
-pub expect_token-q-requires : goal.expect_token-q-requires
-expect_token-q-requires c = c.requires
-
-pub parse_param_list-l-requires : goal.parse_param_list-l-requires
-parse_param_list-l-requires c = c.requires
-
-pub skip_attrs-q-requires-3 : goal.skip_attrs-q-requires-3
-skip_attrs-q-requires-3 c = c.requires
-
-pub eat_ws-q-requires : goal.eat_ws-q-requires
-eat_ws-q-requires c = c.requires
-
 pub overflow_add-detail : goal.overflow_add-detail
 overflow_add-detail c =
     omega (arith, c.rank_byte-linkage.ensures.1, c.parse_param_list-l.ensures.1)

@@ -5,6 +5,6 @@ use Rattle.piece_head.proofs.parse_head.Goals as goal
 pub returns : goal.returns
 returns c = (
   rw c.piece_of.ensures
-      (head_is _ c.requires.1 c.head_node-h.ensures),
+      (head_is _ c.requires c.head_node-h.ensures),
   c.head_node-h.auto.words,
 )

@@ -1,3 +1,4 @@
+use Rattle.std.proofs.lemmas.Bool.{not-false, not-true}
 use mathlib.Core.Path.{refl, ◌∙◌}
 use native.Mathlib.Omega.{arith}
 use Rattle.grammar.specs.Body.{parse_params, parse_param_list}
@@ -33,22 +34,22 @@ returns-then-looks-2 c = (
 pub loop-left-preserved : goal.loop-left-preserved
 loop-left-preserved c = (
   go_on_paid 2 c.loop-left.invariant.0
-      (λ ws. params_more c.loop-left._left c.loop-left.c c.loop-left.n _ _ c.loop-left-test.true c.eat_ws-r.ensures c.looks-in-loop-left.ensures c.if-looks-2.false c.parse_param-x.ensures c.count_child-r4.ensures c.one_more-n.ensures ws c.comma_or-e.ensures c.if-e.true),
+      (λ ws. params_more c.loop-left._left c.loop-left.c c.loop-left.n _ _ c.loop-left-test.true c.eat_ws-r.ensures c.looks-in-loop-left.ensures c.if-looks-2.false c.parse_param-x.ensures c.count_child-r4.ensures c.one_more-n.ensures ws c.comma_or-e.ensures (not-false _ c.if-not-e.false)),
   c.parse_param-x.auto.words ∙ c.loop-left.invariant.1,
 )
 
-pub shape_of-words-else-e : goal.shape_of-words-else-e
-shape_of-words-else-e c =
+pub shape_of-words-then-not-e : goal.shape_of-words-then-not-e
+shape_of-words-then-not-e c =
     c.parse_param-x.auto.words ∙ c.loop-left.invariant.1
 
-pub returns-else-e : goal.returns-else-e
+pub returns-then-not-e : goal.returns-then-not-e
 unfolding parse_param_list
-returns-else-e c = (
+returns-then-not-e c = (
   val _ c.eat_ws-q.ensures
       (byte_no _ _ c.looks.ensures c.if-looks.false
       (call 2 (omega arith)
       (go_on_paid 2 c.loop-left.invariant.0
-      (λ ws. params_end c.loop-left._left c.loop-left.c c.loop-left.n _ _ c.loop-left-test.true c.eat_ws-r.ensures c.looks-in-loop-left.ensures c.if-looks-2.false c.parse_param-x.ensures c.count_child-r4.ensures c.one_more-n.ensures ws c.comma_or-e.ensures c.if-e.false)))),
+      (λ ws. params_end c.loop-left._left c.loop-left.c c.loop-left.n _ _ c.loop-left-test.true c.eat_ws-r.ensures c.looks-in-loop-left.ensures c.if-looks-2.false c.parse_param-x.ensures c.count_child-r4.ensures c.one_more-n.ensures ws c.comma_or-e.ensures (not-true _ c.if-not-e.true))))),
   omega arith,
 )
 

@@ -9,6 +9,3 @@ use Rattle.pieces_listing.proofs.put_pieces.Given as goal
 
 abbrev pub invariant-loop-i : goal.invariant-loop-i
 invariant-loop-i l = (placed l.k (piece_lines l.i (l.n - l.i) (drop (l.i * entry_words) l.directory)) ≡ placed l.at (piece_lines 0 l.n l.directory)) × (stored l.k (piece_lines l.i (l.n - l.i) (drop (l.i * entry_words) l.directory)) l.out ≡ stored l.at (piece_lines 0 l.n l.directory) l.initial.out) × (length l.out ≡ length l.initial.out)
-
-abbrev pub decreases-loop-i : goal.decreases-loop-i
-decreases-loop-i l = l.n - l.i

@@ -8,6 +8,3 @@ use Rattle.pieces_listing.proofs.words_end.Given as goal
 
 abbrev pub invariant-loop-i : goal.invariant-loop-i
 invariant-loop-i l = words_end l.end (l.n - l.i) (drop (l.i * entry_words) l.directory) ≡ words_end 0 l.n l.directory
-
-abbrev pub decreases-loop-i : goal.decreases-loop-i
-decreases-loop-i l = l.n - l.i

@@ -1,11 +1,9 @@
 -- The child's answer decides, as in the definition.
+use borrow.Author.Rules.{rules}
 use Rattle.trees.specs.Steps.{step_of}
+use Rattle.record_steps.proofs.StepLaws.{or_else}
 use Rattle.record_steps.proofs.onward.Goals as goal
 
-pub returns-in-To : goal.returns-in-To
+pub returns : goal.returns
 unfolding step_of
-returns-in-To c = rw (← c.child.ensures, c.in-To.is, step_of)
-
-pub returns-in-Nothing : goal.returns-in-Nothing
-unfolding step_of
-returns-in-Nothing c = rw (← c.child.ensures, c.in-Nothing.is, step_of) c.next.ensures
+returns c = rw (← c.child.ensures, step_of) (or_else c.child.result c.or_else.result _ (λ n. let e = rw n at c.or_else.ensures in search rules) (λ x i. rw i at c.or_else.ensures))

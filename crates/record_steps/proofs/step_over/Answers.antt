@@ -1,10 +1,7 @@
--- A place that is not inside the array has no header, so that the sum need not be made.
+-- Where the sum wraps there is no word, and so no header.
 use native.Mathlib.Omega.{arith}
 use Rattle.record_steps.proofs.StepLaws.{past}
 use Rattle.record_steps.proofs.step_over.Goals as goal
 
-pub returns-else-n-words : goal.returns-else-n-words
-returns-else-n-words c = past _ _ (omega arith)
-
-pub returns-else-at-words : goal.returns-else-at-words
-returns-else-at-words c = past _ _ (omega arith)
+pub returns-in_err-checked_add : goal.returns-in_err-checked_add
+returns-in_err-checked_add c = rw c.from_residual.ensures (past c.args.words.now _ (omega arith))

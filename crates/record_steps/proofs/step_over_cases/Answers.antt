@@ -1,7 +1,10 @@
--- A count from half the array's length on leads past the array.
+-- Where a sum wraps there is no word, and so no header.
 use native.Mathlib.Omega.{arith}
 use Rattle.record_steps.proofs.StepLaws.{past}
 use Rattle.record_steps.proofs.step_over_cases.Goals as goal
 
-pub returns : goal.returns
-returns c = past _ _ (omega arith)
+pub returns-in_err-checked_mul : goal.returns-in_err-checked_mul
+returns-in_err-checked_mul c = rw c.from_residual.ensures (past c.args.words.now _ (omega arith))
+
+pub returns-in_err-checked_add : goal.returns-in_err-checked_add
+returns-in_err-checked_add c = rw c.from_residual-in_err-checked_add.ensures (past c.args.words.now _ (omega arith))

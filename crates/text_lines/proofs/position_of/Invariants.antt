@@ -1,10 +1,6 @@
 -- The invariant `LineAt`: line and column of i, and what the bytes from i up to the place still add to them.
-use Prim.Native.Nat.{◌-◌}
 use Rattle.text_lines.proofs.Columns.{LineAt}
 use Rattle.text_lines.proofs.position_of.Given as goal
 
 abbrev pub invariant-loop-i : goal.invariant-loop-i
 invariant-loop-i l = LineAt l.text l.place l.i l.line l.column
-
-abbrev pub decreases-loop-i : goal.decreases-loop-i
-decreases-loop-i l = l.place - l.i

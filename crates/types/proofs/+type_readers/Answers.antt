@@ -1,3 +1,4 @@
+use Rattle.std.proofs.lemmas.Bool.{not-false, not-true}
 use mathlib.Core.Path.{refl, ◌∙◌}
 use native.Mathlib.Omega.{arith}
 use Rattle.grammar.specs.Types.{struct_fields, parse_type_list, array_type, struct_type, packed_type, suffixes}
@@ -94,19 +95,19 @@ unfolding struct_fields
 parse_struct_fields-loop-left-preserved bound c = (
   go_on c.loop-left.invariant.0
       (λ ws. items_more _ c.loop-left._left 125 c.loop-left.n _ (λ e. omega arith) c.loop-left-test.true c.parse_type-r.ensures c.count_child-r1.ensures
-      c.one_more-n.ensures ws c.comma_or-e.ensures c.if-e.true),
+      c.one_more-n.ensures ws c.comma_or-e.ensures (not-false _ c.if-not-e.false)),
   c.parse_type-r.auto.words ∙ c.loop-left.invariant.1,
 )
 
-pub parse_struct_fields-returns-else-e : goal.parse_struct_fields-returns-else-e
+pub parse_struct_fields-returns-then-not-e : goal.parse_struct_fields-returns-then-not-e
 unfolding struct_fields
-parse_struct_fields-returns-else-e bound c =
+parse_struct_fields-returns-then-not-e bound c =
     val _ c.eat_ws-q.ensures
     (byte_no _ _ c.looks.ensures c.if-looks.false
     (call 0 (omega arith)
     (go_on c.loop-left.invariant.0
     (λ ws. items_end _ c.loop-left._left 125 c.loop-left.n _ (λ e. omega arith) c.loop-left-test.true c.parse_type-r.ensures c.count_child-r1.ensures
-    c.one_more-n.ensures ws c.comma_or-e.ensures c.if-e.false))))
+    c.one_more-n.ensures ws c.comma_or-e.ensures (not-true _ c.if-not-e.true)))))
 
 pub parse_struct_fields-returns : goal.parse_struct_fields-returns
 unfolding struct_fields
@@ -151,20 +152,20 @@ unfolding parse_type_list
 parse_type_list-loop-left-preserved bound c = (
   go_on c.loop-left.invariant.0
       (λ ws. list_more _ c.loop-left._left _ c.loop-left.n _ c.loop-left-test.true c.eat_ws-r.ensures c.looks-in-loop-left.ensures c.if-looks-2.false
-      c.parse_type-r3.ensures c.count_child-r4.ensures c.skip_attrs-r5.ensures c.one_more-n.ensures ws c.comma_or-e.ensures c.if-e.true),
+      c.parse_type-r3.ensures c.count_child-r4.ensures c.skip_attrs-r5.ensures c.one_more-n.ensures ws c.comma_or-e.ensures (not-false _ c.if-not-e.false)),
   c.parse_type-r3.auto.words ∙ c.loop-left.invariant.1,
   c.loop-left.invariant.2,
 )
 
-pub parse_type_list-returns-else-e : goal.parse_type_list-returns-else-e
+pub parse_type_list-returns-then-not-e : goal.parse_type_list-returns-then-not-e
 unfolding parse_type_list
-parse_type_list-returns-else-e bound c =
+parse_type_list-returns-then-not-e bound c =
     val _ c.eat_ws-q.ensures
     (byte_no _ _ c.looks.ensures c.if-looks.false
     (call 0 (omega arith)
     (go_on c.loop-left.invariant.0
     (λ ws. list_end _ c.loop-left._left _ c.loop-left.n _ c.loop-left-test.true c.eat_ws-r.ensures c.looks-in-loop-left.ensures c.if-looks-2.false
-    c.parse_type-r3.ensures c.count_child-r4.ensures c.skip_attrs-r5.ensures c.one_more-n.ensures ws c.comma_or-e.ensures c.if-e.false))))
+    c.parse_type-r3.ensures c.count_child-r4.ensures c.skip_attrs-r5.ensures c.one_more-n.ensures ws c.comma_or-e.ensures (not-true _ c.if-not-e.true)))))
 
 pub parse_type_list-returns : goal.parse_type_list-returns
 unfolding parse_type_list

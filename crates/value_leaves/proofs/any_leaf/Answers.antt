@@ -54,9 +54,6 @@ returns-then-word c =
       no = λ h g r. true_false (sym h);
     }
 
-pub f0x_value-r-requires : goal.f0x_value-r-requires
-f0x_value-r-requires c = c.requires
-
 pub returns-then-starts : goal.returns-then-starts
 unfolding leaf_values key_values
 returns-then-starts c =

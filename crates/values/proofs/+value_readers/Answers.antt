@@ -1,3 +1,4 @@
+use Rattle.std.proofs.lemmas.Bool.{not-false, not-true}
 use mathlib.Core.Path.{refl, ◌∙◌}
 use native.Mathlib.Omega.{arith}
 use Rattle.lexer.proofs.Laws.{done, stay, go_on, then, val, byte_yes, byte_no, word_yes, word_no, fail_is, fail_at, call}
@@ -21,27 +22,27 @@ const_exprs-returns-then-word bound c =
     word_yes _ _ c.word.ensures c.if-word.true c.pass_word-q.ensures
     (call 1 (omega arith) c.parse_ce_gep.ensures)
 
-pub const_exprs-returns-then-c : goal.const_exprs-returns-then-c
+pub const_exprs-returns-in-Some : goal.const_exprs-returns-in-Some
 unfolding const_exprs conv_ops bin_ops
-const_exprs-returns-then-c bound c =
+const_exprs-returns-in-Some bound c =
     word_no _ _ c.word.ensures c.if-word.false
-    (rank_paid _ _ _ (c.match_conv_op-c.ensures.yes c.if-c.true).1 tt (c.match_conv_op-c.ensures.yes c.if-c.true).0
+    (rank_paid _ _ _ (c.match_op-c.ensures.yes _ c.in-Some.is).1 tt (c.match_op-c.ensures.yes _ c.in-Some.is).0
     (call 1 (omega arith) c.parse_ce_conv.ensures))
 
-pub const_exprs-returns-then-b : goal.const_exprs-returns-then-b
+pub const_exprs-returns-in-Some-2 : goal.const_exprs-returns-in-Some-2
 unfolding const_exprs conv_ops bin_ops
-const_exprs-returns-then-b bound c =
+const_exprs-returns-in-Some-2 bound c =
     word_no _ _ c.word.ensures c.if-word.false
-    (rank_no _ _ _ (c.match_conv_op-c.ensures.no c.if-c.false).2 (c.match_conv_op-c.ensures.no c.if-c.false).1
-    (rank_paid _ _ _ (c.match_bin_op-b.ensures.yes c.if-b.true).1 tt (c.match_bin_op-b.ensures.yes c.if-b.true).0
+    (rank_no _ _ _ (c.match_op-c.ensures.no c.in-None.is).2 (c.match_op-c.ensures.no c.in-None.is).1
+    (rank_paid _ _ _ (c.match_op-b.ensures.yes _ c.in-Some-2.is).1 tt (c.match_op-b.ensures.yes _ c.in-Some-2.is).0
     (call 1 (omega arith) c.parse_ce_bin.ensures)))
 
 pub const_exprs-returns : goal.const_exprs-returns
 unfolding const_exprs conv_ops bin_ops
 const_exprs-returns bound c =
     word_no _ _ c.word.ensures c.if-word.false
-    (rank_no _ _ _ (c.match_conv_op-c.ensures.no c.if-c.false).2 (c.match_conv_op-c.ensures.no c.if-c.false).1
-    (rank_no _ _ _ (c.match_bin_op-b.ensures.no c.if-b.false).2 (c.match_bin_op-b.ensures.no c.if-b.false).1 (fail_is _ c.refuse.ensures)))
+    (rank_no _ _ _ (c.match_op-c.ensures.no c.in-None.is).2 (c.match_op-c.ensures.no c.in-None.is).1
+    (rank_no _ _ _ (c.match_op-b.ensures.no c.in-None-2.is).2 (c.match_op-b.ensures.no c.in-None-2.is).1 (fail_is _ c.refuse.ensures)))
 
 pub gep_indices-loop-left-init : goal.gep_indices-loop-left-init
 gep_indices-loop-left-init bound c =
@@ -50,14 +51,14 @@ gep_indices-loop-left-init bound c =
 pub gep_indices-loop-left-preserved : goal.gep_indices-loop-left-preserved
 gep_indices-loop-left-preserved bound c = (
   go_on c.loop-left.invariant.0
-      (λ ws. indices_more _ c.loop-left._left c.loop-left.n ws c.loop-left-test.true c.comma_or-e.ensures _ c.if-e.true c.skip_keyword-q2.ensures c.pair_child-x.ensures),
+      (λ ws. indices_more _ c.loop-left._left c.loop-left.n ws c.loop-left-test.true c.comma_or-e.ensures _ (not-false _ c.if-not-e.false) c.skip_keyword-q2.ensures c.pair_child-x.ensures),
   c.pair_child-x.auto.words ∙ c.loop-left.invariant.1,
 )
 
-pub gep_indices-returns-else-e : goal.gep_indices-returns-else-e
-gep_indices-returns-else-e bound c =
+pub gep_indices-returns-then-not-e : goal.gep_indices-returns-then-not-e
+gep_indices-returns-then-not-e bound c =
     go_on c.loop-left.invariant.0
-    (λ ws. indices_end _ c.loop-left._left c.loop-left.n ws c.loop-left-test.true c.comma_or-e.ensures c.if-e.false)
+    (λ ws. indices_end _ c.loop-left._left c.loop-left.n ws c.loop-left-test.true c.comma_or-e.ensures (not-true _ c.if-not-e.true))
 
 pub gep_indices-returns : goal.gep_indices-returns
 gep_indices-returns bound c =
@@ -103,18 +104,18 @@ pub pair_list-loop-left-preserved : goal.pair_list-loop-left-preserved
 unfolding pair_list
 pair_list-loop-left-preserved bound c = (
   go_on c.loop-left.invariant.0
-      (λ ws. pairs_more _ c.loop-left._left _ c.loop-left.n _ c.loop-left-test.true c.pair_child-x.ensures ws c.comma_or-e.ensures c.if-e.true),
+      (λ ws. pairs_more _ c.loop-left._left _ c.loop-left.n _ c.loop-left-test.true c.pair_child-x.ensures ws c.comma_or-e.ensures (not-false _ c.if-not-e.false)),
   c.pair_child-x.auto.words ∙ c.loop-left.invariant.1,
 )
 
-pub pair_list-returns-else-e : goal.pair_list-returns-else-e
+pub pair_list-returns-then-not-e : goal.pair_list-returns-then-not-e
 unfolding pair_list
-pair_list-returns-else-e bound c =
+pair_list-returns-then-not-e bound c =
     val _ c.eat_ws-q.ensures
     (byte_no _ _ c.looks.ensures c.if-looks.false
     (call 0 (omega arith)
     (go_on c.loop-left.invariant.0
-    (λ ws. pairs_end _ c.loop-left._left _ c.loop-left.n _ c.loop-left-test.true c.pair_child-x.ensures ws c.comma_or-e.ensures c.if-e.false))))
+    (λ ws. pairs_end _ c.loop-left._left _ c.loop-left.n _ c.loop-left-test.true c.pair_child-x.ensures ws c.comma_or-e.ensures (not-true _ c.if-not-e.true)))))
 
 pub pair_list-returns : goal.pair_list-returns
 unfolding pair_list

@@ -1,6 +1,6 @@
 -- What `fired` finds is judged by the table, and that is reported.
 use mathlib.Core.Path.{◌∙◌, ap, subst}
-use Rattle.channel_spec.specs.declared.Told.{Told}
+use Rattle.channel_spec.specs.Told.{Told}
 use Rattle.channel_spec.specs.Answers.{ruling, channel_rule}
 use Rattle.zimlokur.specs.Report.{ReportsChannel}
 use Rattle.zimlokur.proofs.zimlokur_channel.Goals as goal

@@ -1,9 +1,5 @@
--- Each form of the answer is one of the two reports, of the step that the definition gives.
-use Rattle.zimlokur.proofs.StepReports.{steps_to, steps_nowhere}
+-- The step is the one that the definition gives.
 use Rattle.zimlokur.proofs.zimlokur_next.Goals as goal
 
-pub returns-in-To : goal.returns-in-To
-returns-in-To c = steps_to _ c.next.ensures c.in-To.is
-
-pub returns-in-Nothing : goal.returns-in-Nothing
-returns-in-Nothing c = steps_nowhere c.next.ensures c.in-Nothing.is
+pub returns : goal.returns
+returns c = rw c.next.ensures at c.report_step.ensures

@@ -15,4 +15,4 @@ loop-k-preserved c =
     c.loop-k.invariant ∙ clear_next _ c.loop-k.k _ (omega (arith, c.loop-k-test.true)) c.if-marks-k-eq0.false ∙ rw z
 
 pub returns : goal.returns
-returns c = sym (c.loop-k.invariant ∙ clear_none _ c.loop-k.k _ (omega (arith, c.loop-k-test.false)))
+returns c = let z : c.loop-k.k ≡ window_size = omega arith in rw z at (sym (c.loop-k.invariant ∙ clear_none _ c.loop-k.k _ (omega (arith, c.loop-k-test.false))))

@@ -6,6 +6,3 @@ use Rattle.channel_table.proofs.windows.first_clear.Given as goal
 
 abbrev pub invariant-loop-k : goal.invariant-loop-k
 invariant-loop-k l = first_clear window_size 0 l.marks ≡ first_clear (window_size - l.k) l.k l.marks
-
-abbrev pub decreases-loop-k : goal.decreases-loop-k
-decreases-loop-k l = window_size - l.k

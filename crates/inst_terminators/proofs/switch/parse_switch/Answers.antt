@@ -13,12 +13,6 @@ use mathlib.Core.Path.{◌∙◌}
 use native.Mathlib.Omega.{arith}
 use Rattle.inst_terminators.proofs.switch.parse_switch.Goals as goal
 
-pub parse_typed_val-z1-requires : goal.parse_typed_val-z1-requires
-parse_typed_val-z1-requires c = c.requires
-
-pub switch_labels-l-requires : goal.switch_labels-l-requires
-switch_labels-l-requires c = c.requires
-
 pub shape_of-words : goal.shape_of-words
 shape_of-words c =
     c.close.auto.words ∙ c.patch-q8.auto.words ∙ c.switch_labels-l.auto.words ∙ c.label_node-q6.auto.words ∙ c.parse_typed_val-z1.auto.words ∙ c.switch_ints-c.auto.words ∙ c.push-p2.auto.words ∙ c.push-p1.auto.words
@@ -40,4 +34,4 @@ returns c =
     (resume_out c.parse_typed_val-z1.result c.parse_trailing-t.result.p c.resume-q5.ensures))
     (c.label_node-q6.ensures c.args.text.now).hands) (shows_labels _ _ ints labels) c.resume-z2.ensures c.switch_labels-l.ensures c.resume-q7.ensures
     (enrich
-    (switch_close x ints labels _ _ _ c.minus-count.ensures c.patch-q8.ensures c.close.ensures))))))))))))
+    (switch_close x ints labels _ _ _ c.saturating_sub-count.ensures c.patch-q8.ensures c.close.ensures))))))))))))

@@ -10,9 +10,6 @@ use Rattle.inst_terminators.proofs.switch.switch_labels.Goals as goal
 pub loop-left-init : goal.loop-left-init
 loop-left-init c = (kept_here (λ ints labels. switch_cases 65536 3 ints labels) nothing [] (omega arith), refl)
 
-pub eat_ws-q-requires : goal.eat_ws-q-requires
-eat_ws-q-requires c = c.requires
-
 pub shape_of-words-then-looks : goal.shape_of-words-then-looks
 shape_of-words-then-looks c = c.loop-left.invariant.1
 
@@ -20,12 +17,6 @@ pub returns-then-looks : goal.returns-then-looks
 returns-then-looks c =
     kept_on c.loop-left.invariant.0
     (λ ints labels. labels_end _ _ ints labels c.loop-left-test.true c.eat_ws-q.ensures c.looks.ensures c.if-looks.true c.pass-q.ensures)
-
-pub case_int-c-requires : goal.case_int-c-requires
-case_int-c-requires c = c.requires
-
-pub target-t-requires : goal.target-t-requires
-target-t-requires c = c.requires
 
 pub shape_of-words-then-stopped : goal.shape_of-words-then-stopped
 shape_of-words-then-stopped c = c.loop-left.invariant.1

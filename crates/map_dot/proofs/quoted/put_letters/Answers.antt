@@ -1,3 +1,4 @@
+-- A letter is stored, and the rest is still to be stored.
 use mathlib.Core.Path.{◌≡◌, refl, ◌∙◌}
 use mathlib.Core.List.{[]}
 use Prim.Native.Nat.{◌+◌, ◌≤◌}
@@ -9,22 +10,16 @@ use Rattle.buffer.specs.Laws.{went_on}
 use Rattle.map_spec.specs.Drawing.{letters}
 use Rattle.map_dot.proofs.quoted.put_letters.Goals as goal
 
-pub loop-i-init : goal.loop-i-init
-loop-i-init c = (refl, refl, refl)
-
-pub overflow_cast-raw : goal.overflow_cast-raw
-overflow_cast-raw c = omega (arith, c.shared_slice_known-in-loop-i-1.given c.loop-i.i)
-
-pub loop-i-preserved : goal.loop-i-preserved
+pub loop-x-preserved : goal.loop-x-preserved
 unfolding letters
-loop-i-preserved c =
-    let e = drop_next c.args.raw.now c.loop-i.i c.loop-i-test.true in
-    let w = went_on (letters (drop (c.loop-i.i + 1) c.args.raw.now)) c.put_letter-k.ensures (rw e at c.loop-i.invariant.0) (rw e at c.loop-i.invariant.1) in
-    (w.0, w.1, c.put_letter-k.auto.out ∙ c.loop-i.invariant.2)
+loop-x-preserved c =
+    let e = drop_next c.args.raw.now c.loop-x.x-index c.loop-x-test.true in
+    let w = went_on (letters (drop (c.loop-x.x-index + 1) c.args.raw.now)) (rw c.from.ensures at c.put_letter-k.ensures) (rw e at c.loop-x.invariant.0) (rw e at c.loop-x.invariant.1) in
+    (w.0, w.1, c.put_letter-k.auto.out ∙ c.loop-x.invariant.2)
 
 pub returns : goal.returns
 unfolding letters placed stored
 returns c =
-    let l : length c.args.raw.now ≤ c.loop-i.i = c.loop-i-test.false in
-    let e : drop c.loop-i.i c.args.raw.now ≡ [] = drop_of_length-le c.args.raw.now l in
-    record { place = rw e at c.loop-i.invariant.0; buffer = rw e at c.loop-i.invariant.1 }
+    let l : length c.args.raw.now ≤ c.loop-x.x-index = c.loop-x-test.false in
+    let e : drop c.loop-x.x-index c.args.raw.now ≡ [] = drop_of_length-le c.args.raw.now l in
+    record { place = rw e at c.loop-x.invariant.0; buffer = rw e at c.loop-x.invariant.1 }

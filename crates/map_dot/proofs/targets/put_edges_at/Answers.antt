@@ -14,14 +14,14 @@ returns-then-not-names_targets c =
     (sym (ap branches
     (c.kind_in.ensures ∙ ap kind_in c.word_at-header.ensures)) ∙ sym c.names_targets.ensures ∙ c.if-not-names_targets.true)) (record { place = refl; buffer = refl })
 
-pub returns-in-To : goal.returns-in-To
-returns-in-To c =
+pub returns-in-Some : goal.returns-in-Some
+returns-in-Some c =
     rw (targets_there _ c.args.piece.now c.args.own.now c.args.terminator _ _ (sym (ap branches
-    (c.kind_in.ensures ∙ ap kind_in c.word_at-header.ensures)) ∙ sym c.names_targets.ensures ∙ c.if-not-names_targets.false) (sym c.child.ensures ∙ ap reached c.in-To.is)
+    (c.kind_in.ensures ∙ ap kind_in c.word_at-header.ensures)) ∙ sym c.names_targets.ensures ∙ c.if-not-names_targets.false) (sym c.child.ensures ∙ ap reached c.in-Some.is)
     (c.children_in.ensures ∙ ap children_in c.word_at-header.ensures)) c.put_edges_from.ensures
 
-pub returns-in-Nothing : goal.returns-in-Nothing
+pub returns-in-None : goal.returns-in-None
 unfolding placed stored
-returns-in-Nothing c =
+returns-in-None c =
     rw (targets_none _ c.args.piece.now c.args.own.now c.args.terminator
-    (sym c.child.ensures ∙ ap reached c.in-Nothing.is)) (record { place = refl; buffer = refl })
+    (sym c.child.ensures ∙ ap reached c.in-None.is)) (record { place = refl; buffer = refl })

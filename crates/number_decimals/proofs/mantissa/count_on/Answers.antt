@@ -1,12 +1,9 @@
--- Counts stop at 2^62.
+-- Counts stop at 2^62, which is below the place where std's sum stops.
 -- Assumes nothing.
-use mathlib.Core.Path.{sym}
-use native.Mathlib.Omega.{arith}
-use Rattle.number_decimals.proofs.Scale.{counted_same, counted_most}
+use mathlib.Core.Path.{ap, ◌∙◌}
+use Rattle.number_decimals.specs.Decimals.{counted}
+use Rattle.number_decimals.proofs.Scale.{counted_top}
 use Rattle.number_decimals.proofs.mantissa.count_on.Goals as goal
 
-pub returns-then-n-lt-COUNT_LIMIT : goal.returns-then-n-lt-COUNT_LIMIT
-returns-then-n-lt-COUNT_LIMIT c = sym (counted_same _ (omega arith))
-
 pub returns : goal.returns
-returns c = sym (counted_most _ (omega arith))
+returns c = c.count.ensures ∙ ap counted c.saturating_add.ensures ∙ counted_top _

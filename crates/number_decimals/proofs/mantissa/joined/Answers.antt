@@ -1,34 +1,37 @@
--- A quotient says whether the product stays below 10^15.
+-- What 64 bits do not hold has more than 15 digits.
 -- Assumes nothing.
-use mathlib.Core.Path.{ap, ◌∙◌}
-use Prim.Native.Nat.{ℕ, ◌*◌, ◌+◌, ◌<◌, ◌≤◌}
-use native.Mathlib.Nat.{div-lt_iff_lt-mul, le-div_iff_mul-le}
+use mathlib.Core.Bool.{Bool, true, false}
+use mathlib.Core.Path.{◌≡◌, refl, ◌∙◌}
+use Prim.Native.Nat.{ℕ, ◌*◌, ◌+◌, ◌^◌}
 use native.Mathlib.Omega.{arith}
-use borrow.Author.Tests.{le-ltb}
+use lib.Dec.{ltb}
+use Rattle.std.specs.Bool.{then_some}
+use Rattle.std.proofs.Common.{Some, None}
+use Rattle.program.specs.Choice.{pick}
 use Rattle.number_decimals.specs.Decimals.{few_digits}
+use Rattle.number_decimals.specs.declared.mantissa.Mantissa.{Mantissa}
+use Rattle.number_decimals.proofs.Scale.{many}
 use Rattle.number_decimals.proofs.mantissa.joined.Goals as goal
 
-small : (c : goal.Else-p-sig) → c.args.sig * c.args.p ≤ 999999999999999
-small c = (le-div_iff_mul-le c.requires).0 c.if-p-sig.false
+pub returns-in_err-checked_mul : goal.returns-in_err-checked_mul
+returns-in_err-checked_mul c =
+    let h = c.in_err-checked_mul.ensures in
+    c.from_residual.ensures ∙ many (c.args.sig * c.args.p + c.args.d) 0 (omega arith)
 
-over : (x y : ℕ) → 999999999999999 < x → 1000000000000000 ≤ x + y
-over x y h = omega arith
+pub returns-in_err-x : goal.returns-in_err-x
+returns-in_err-x c =
+    let h = c.in_err-x.ensures in
+    c.from_residual-in_err-x.ensures ∙ many (c.args.sig * c.args.p + c.args.d) 0 (omega arith)
 
-pub returns-then-p-sig : goal.returns-then-p-sig
+few_then : (x y : ℕ) → x ≡ y → then_some {T = Mantissa} (ltb x (10 ^ 15)) (record { sig = x; zeros = 0 }) ≡ few_digits y 0
 unfolding few_digits
-returns-then-p-sig c =
-    simp (
-      c.too_many.ensures,
-      le-ltb (c.args.sig * c.args.p + c.args.d) 1000000000000000
-          (over (c.args.sig * c.args.p) c.args.d
-          ((div-lt_iff_lt-mul c.requires).0 c.if-p-sig.true)),
-    )
-
-pub overflow_mul-sig : goal.overflow_mul-sig
-overflow_mul-sig c = omega (arith, small c)
-
-pub overflow_add-sig : goal.overflow_add-sig
-overflow_add-sig c = omega (arith, small c.before)
+few_then x y e = rw e (go (ltb y (10 ^ 15)) (record { sig = y; zeros = 0 }))
+  where
+    go : (t : Bool) (m : Mantissa) → then_some t m ≡ pick t (Some m) None
+    go true m = refl
+    go false m = refl
 
 pub returns : goal.returns
-returns c = c.few.ensures ∙ ap (λ (x : ℕ). few_digits (c.args.sig * c.args.p + x) 0) c.wide.ensures
+returns c =
+    let h = c.in_ok-x.ensures in
+    c.then_some.ensures ∙ few_then c.in_ok-x.x (c.args.sig * c.args.p + c.args.d) (omega arith)

@@ -31,7 +31,7 @@ overflow_shl-result c = (let a = zeros_many c.args.f c.requires.0 c.requires.1 i
 pub overflow_add-result-2 : goal.overflow_add-result-2
 overflow_add-result-2 c =
     omega
-    (arith, bits c.args.f c.wide32.result c.wide32-2.result c.requires.0 c.requires.1 c.wide32.ensures c.wide32-2.ensures)
+    (arith, bits c.args.f c.from.result c.from-2.result c.requires.0 c.requires.1 c.from.ensures c.from-2.ensures)
 
 pub returns : goal.returns
-returns c = bits c.args.f c.wide32.result c.wide32-2.result c.requires.0 c.requires.1 c.wide32.ensures c.wide32-2.ensures
+returns c = bits c.args.f c.from.result c.from-2.result c.requires.0 c.requires.1 c.from.ensures c.from-2.ensures

@@ -1,23 +1,15 @@
--- A short number stays in the low half.
+-- Ten times the value and the digit fit 128 bits exactly where std's two checked steps say so.
 -- Assumes nothing.
-use mathlib.Core.Path.{ap}
-use Prim.Native.Nat.{ℕ, ◌*◌, ◌+◌}
-use native.Mathlib.Omega.{arith}
-use Rattle.number_integers.specs.Integers.{pushed}
-use Rattle.number_integers.proofs.Halves.{stays_low}
+use mathlib.Core.Path.{◌∙◌}
+use Rattle.number_integers.proofs.Magnitudes.{push_stays, push_over, push_sum}
 use Rattle.number_integers.proofs.integer.push.Goals as goal
 
-pub returns-then-a : goal.returns-then-a
-unfolding pushed
-returns-then-a c = simp c.if-a.true
+pub returns-in_err-a : goal.returns-in_err-a
+returns-in_err-a c = c.from_residual.ensures ∙ push_stays _ _ c.in_err-a.was
 
-pub returns-then-lo-lt-TENFOLD_LIMIT : goal.returns-then-lo-lt-TENFOLD_LIMIT
-unfolding pushed
-returns-then-lo-lt-TENFOLD_LIMIT c =
-    simp c.if-a.false
-    (stays_low c.args.a.hi c.args.a.lo c.args.d _ c.if-hi-eq0.true (omega arith)
-    (ap (λ (x : ℕ). c.args.a.lo * 10 + x) c.wide.ensures))
+pub returns-in_err-checked_mul : goal.returns-in_err-checked_mul
+returns-in_err-checked_mul c =
+    c.from_residual-in_err-checked_mul.ensures ∙ push_over _ _ _ c.in_ok-a.was c.in_err-checked_mul.ensures
 
 pub returns : goal.returns
-unfolding pushed
-returns c = simp c.if-a.false c.carried.ensures
+returns c = push_sum _ _ _ _ _ _ c.in_ok-a.was c.in_ok-checked_mul.ensures.1 c.from.ensures c.checked_add.ensures

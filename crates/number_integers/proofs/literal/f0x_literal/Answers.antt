@@ -1,17 +1,25 @@
 -- 8 digits, 16, or another count.
 -- Assumes nothing.
+use native.Mathlib.Omega.{arith}
 use borrow.Author.Tests.{eq-eqb, ne_eqb}
 use Rattle.number_integers.specs.Literals.{f0x_literal}
 use Rattle.number_integers.proofs.literal.f0x_literal.Goals as goal
 
-pub returns-then-count-eq8 : goal.returns-then-count-eq8
+pub returns-in_err-h : goal.returns-in_err-h
 unfolding f0x_literal
-returns-then-count-eq8 c = simp (eq-eqb _ 8 c.if-count-eq8.true, c.widen_bits.ensures)
+returns-in_err-h c = simp (c.from_residual.ensures, c.in_err-h.was)
 
-pub returns-then-count-eq16 : goal.returns-then-count-eq16
+pub returns-in-8 : goal.returns-in-8
 unfolding f0x_literal
-returns-then-count-eq16 c = simp (ne_eqb _ 8 c.if-count-eq8.false, eq-eqb _ 16 c.if-count-eq16.true)
+returns-in-8 c = simp (c.in_ok-h.was, eq-eqb _ 8 c.in-8.is, c.widen_bits.ensures)
 
-pub returns : goal.returns
+pub returns-in-16 : goal.returns-in-16
 unfolding f0x_literal
-returns c = simp (ne_eqb _ 8 c.if-count-eq8.false, ne_eqb _ 16 c.if-count-eq16.false)
+returns-in-16 c = simp (c.in_ok-h.was, c.in-16.is)
+
+pub returns-in_default : goal.returns-in_default
+unfolding f0x_literal
+returns-in_default c =
+    let n = ne_eqb c.in_ok-h.h.count 8 (λ e. omega arith) in
+    let m = ne_eqb c.in_ok-h.h.count 16 (λ e. omega arith) in
+    simp (c.in_ok-h.was, n, m)

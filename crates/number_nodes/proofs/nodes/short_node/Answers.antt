@@ -1,15 +1,17 @@
--- A value of 64 bits is its own low half; negative and not zero, it is 2^64 less it there, under a half of ones.
+-- The value, or its two's complement of 128 bits.
+use mathlib.Core.Path.{◌≡◌, ◌∙◌}
 use native.Mathlib.Omega.{arith}
-use Rattle.number_numerals.proofs.NumeralLaws.{halves_minus, halves_plus, halves_zero}
+use Rattle.grammar.specs.Numbers.{twos}
+use Rattle.number_numerals.proofs.NumeralLaws.{twos_minus, twos_plus}
 use Rattle.number_nodes.proofs.nodes.short_node.Goals as goal
-use Rattle.number_nodes.proofs.nodes.short_node.Goals.{then-neg+else-v-ne0, else-neg}
 
-pub returns-then-v-ne0 : goal.returns-then-v-ne0
-returns-then-v-ne0 c = λ text. rw (halves_minus _ _ c.if-neg.true (omega arith) c.if-v-ne0.true) (c.int_node.ensures text)
+pub returns-then-neg : goal.returns-then-neg
+returns-then-neg c = λ text.
+    let e : c.wrapping_neg.result ≡ twos c.args.neg c.args.v =
+    twos_minus _ _ _ c.if-neg.true (omega arith) (omega arith) (rw c.from-n.ensures at c.wrapping_neg.ensures) in
+    rw e at (c.int_node.ensures text)
 
 pub returns : goal.returns
 returns c = λ text.
-    elim c.if-neg.branch [
-      | then-neg+else-v-ne0 w ↦ rw (halves_zero _ _ w.if-neg.true w.if-v-ne0.false) (c.int_node-2.ensures text)
-      | else-neg w ↦ rw (halves_plus _ c.args.v w.if-neg.false (omega arith)) (c.int_node-2.ensures text)
-    ]
+    let e : c.from-n.result ≡ twos c.args.neg c.args.v = c.from-n.ensures ∙ twos_plus _ _ c.if-neg.false in
+    rw e at (c.int_node-2.ensures text)

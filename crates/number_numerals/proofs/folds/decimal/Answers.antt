@@ -2,9 +2,9 @@
 -- Assumes nothing.
 use mathlib.Core.Bool.{true, false}
 use mathlib.Core.Path.{◌≡◌, sym, ◌∙◌}
+use Rattle.std.proofs.Common.{Err}
 use Rattle.number_decimals.specs.Decimals.{float_in}
 use Rattle.number_numerals.specs.Numerals.{decimal_in, float_literal}
-use Rattle.number_integers.specs.declared.literal.Literal.TheVariants.{Refused}
 use Rattle.number_numerals.specs.declared.folds.Fold.{Fold}
 use Rattle.number_numerals.proofs.folds.decimal.Goals as goal
 
@@ -12,7 +12,7 @@ valid : (s : Fold) → s.any ≡ true → float_literal s.neg (float_in s.mantis
 unfolding decimal_in
 valid s e = sym (rw (decimal_in, e))
 
-empty : (s : Fold) → s.any ≡ false → Refused 7 ≡ decimal_in s
+empty : (s : Fold) → s.any ≡ false → Err 7 ≡ decimal_in s
 unfolding decimal_in
 empty s e = sym (rw (decimal_in, e))
 

@@ -7,6 +7,6 @@ pub returns-then-b-eq43 : goal.returns-then-b-eq43
 unfolding is_sign
 returns-then-b-eq43 c = simp (eq-eqb _ _ c.if-b-eq43.true)
 
-pub returns : goal.returns
+pub returns-else-b-eq43 : goal.returns-else-b-eq43
 unfolding is_sign
-returns c = simp (ne_eqb _ _ c.if-b-eq43.false)
+returns-else-b-eq43 c = simp (ne_eqb _ _ c.if-b-eq43.false)

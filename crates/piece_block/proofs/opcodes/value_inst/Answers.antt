@@ -9,9 +9,6 @@ use Rattle.lexer.proofs.Laws.{turn}
 use Rattle.piece_block.proofs.StatementLaws.{paid, paid_rich}
 use Rattle.piece_block.proofs.opcodes.value_inst.Goals as goal
 
-pub parse_bin-requires : goal.parse_bin-requires
-parse_bin-requires c = c.requires
-
 pub shape_of-words-then-r-lt-V_FADD : goal.shape_of-words-then-r-lt-V_FADD
 shape_of-words-then-r-lt-V_FADD c = c.parse_bin.auto.words
 
@@ -20,9 +17,6 @@ returns-then-r-lt-V_FADD c =
     turn (value_bin _ _ c.if-r-lt-V_FADD.true)
     (paid c.parse_bin.ensures (omega arith))
 
-pub parse_fbin-requires : goal.parse_fbin-requires
-parse_fbin-requires c = c.requires
-
 pub shape_of-words-then-r-lt-V_FNEG : goal.shape_of-words-then-r-lt-V_FNEG
 shape_of-words-then-r-lt-V_FNEG c = c.parse_fbin.auto.words
 
@@ -30,9 +24,6 @@ pub returns-then-r-lt-V_FNEG : goal.returns-then-r-lt-V_FNEG
 returns-then-r-lt-V_FNEG c =
     turn (value_fbin _ _ c.if-r-lt-V_FADD.false c.if-r-lt-V_FNEG.true)
     (paid c.parse_fbin.ensures (omega arith))
-
-pub parse_fneg-requires : goal.parse_fneg-requires
-parse_fneg-requires c = c.requires
 
 pub shape_of-words-then-r-eq-V_FNEG : goal.shape_of-words-then-r-eq-V_FNEG
 shape_of-words-then-r-eq-V_FNEG c = c.parse_fneg.auto.words
@@ -43,18 +34,12 @@ returns-then-r-eq-V_FNEG c =
     turn (ap (value_at _) c.if-r-eq-V_FNEG.true)
     (paid c.parse_fneg.ensures (omega arith))
 
-pub parse_conv-requires : goal.parse_conv-requires
-parse_conv-requires c = c.requires
-
 pub shape_of-words-then-r-lt-V_ICMP : goal.shape_of-words-then-r-lt-V_ICMP
 shape_of-words-then-r-lt-V_ICMP c = c.parse_conv.auto.words
 
 pub returns-then-r-lt-V_ICMP : goal.returns-then-r-lt-V_ICMP
 returns-then-r-lt-V_ICMP c =
     turn (value_conv _ _ (omega (arith, c.if-r-lt-V_FNEG.false, c.if-r-eq-V_FNEG.false)) c.if-r-lt-V_ICMP.true) (paid c.parse_conv.ensures (omega arith))
-
-pub parse_tail_call-requires : goal.parse_tail_call-requires
-parse_tail_call-requires c = c.requires
 
 pub shape_of-words-then-r-lt-V_NONE : goal.shape_of-words-then-r-lt-V_NONE
 shape_of-words-then-r-lt-V_NONE c = c.parse_tail_call.auto.words
@@ -66,42 +51,6 @@ returns-then-r-lt-V_NONE c =
 
 pub returns-then-r-ge-V_TAIL : goal.returns-then-r-ge-V_TAIL
 returns-then-r-ge-V_TAIL c = turn (value_none _ _ c.if-r-lt-V_NONE.false) (fail_is _ c.refuse.ensures)
-
-pub parse_icmp-requires : goal.parse_icmp-requires
-parse_icmp-requires c = c.requires
-
-pub parse_fcmp-requires : goal.parse_fcmp-requires
-parse_fcmp-requires c = c.requires
-
-pub parse_select-requires : goal.parse_select-requires
-parse_select-requires c = c.requires
-
-pub parse_load-requires : goal.parse_load-requires
-parse_load-requires c = c.requires
-
-pub parse_gep_inst-requires : goal.parse_gep_inst-requires
-parse_gep_inst-requires c = c.requires
-
-pub parse_phi-requires : goal.parse_phi-requires
-parse_phi-requires c = c.requires
-
-pub parse_alloca-requires : goal.parse_alloca-requires
-parse_alloca-requires c = c.requires
-
-pub parse_freeze-requires : goal.parse_freeze-requires
-parse_freeze-requires c = c.requires
-
-pub parse_call-requires : goal.parse_call-requires
-parse_call-requires c = c.requires
-
-pub parse_cmpxchg-requires : goal.parse_cmpxchg-requires
-parse_cmpxchg-requires c = c.requires
-
-pub parse_atomicrmw-requires : goal.parse_atomicrmw-requires
-parse_atomicrmw-requires c = c.requires
-
-pub parse_extractvalue-requires : goal.parse_extractvalue-requires
-parse_extractvalue-requires c = c.requires
 
 pub shape_of-words-in-31 : goal.shape_of-words-in-31
 shape_of-words-in-31 c = c.parse_icmp.auto.words

@@ -1,7 +1,6 @@
 -- The tables' words, words_of by their lengths, are those of the definition, and a rank among so few fits a byte.
 use mathlib.Core.Path.{◌∙◌}
 use lib.Dec.{lit<}
-use Rattle.lexer.specs.Table.{words_of}
 use Rattle.grammar.specs.Instructions.{fbin_ops, inst_conv_ops, tail_words}
 use Rattle.grammar.specs.Values.{bin_ops}
 use Rattle.piece_block.specs.Opcodes.{value_opcodes}
@@ -9,5 +8,5 @@ use Rattle.piece_block.proofs.OpcodeLaws.{rank_small}
 use Rattle.piece_block.proofs.opcodes.value_opcode.Goals as goal
 
 pub returns : goal.returns
-unfolding value_opcodes bin_ops fbin_ops inst_conv_ops tail_words words_of
+unfolding value_opcodes bin_ops fbin_ops inst_conv_ops tail_words
 returns c = c.narrow.ensures (rank_small _ value_opcodes c.spelled_rank-r.ensures (lit< tt)) ∙ c.spelled_rank-r.ensures

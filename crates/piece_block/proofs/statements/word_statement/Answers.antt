@@ -19,7 +19,7 @@ returns-then-looks c =
     (place_at _ _ c.place-j.ensures
     (λ m. byte_yes _ _ c.looks.ensures c.if-looks.true c.pass-q2.ensures
     (val _ c.label_counter-d.ensures
-    (enrich (is_label _ _ _ _ _ _ c.minus-n.ensures c.read_word-x.ensures.size l c.pack_word-label.ensures))))))
+    (enrich (is_label _ _ _ _ _ _ c.saturating_sub-n.ensures c.read_word-x.ensures.size l c.pack_word-label.ensures))))))
 
 pub shape_of-words-then-r-lt-S_STORE : goal.shape_of-words-then-r-lt-S_STORE
 shape_of-words-then-r-lt-S_STORE c = c.terminator-q5.auto.words

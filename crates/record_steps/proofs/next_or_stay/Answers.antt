@@ -1,6 +1,0 @@
-use mathlib.Core.Path.{ap, ◌∙◌}
-use Rattle.record_steps.specs.Moves.{place_or}
-use Rattle.record_steps.proofs.next_or_stay.Goals as goal
-
-pub returns : goal.returns
-returns c = c.place_or.ensures ∙ ap (place_or _) c.next.ensures
