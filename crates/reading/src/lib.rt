@@ -28,11 +28,7 @@ pub struct Renewed {
 pub type Reread = Result<Renewed, Refusal>;
 
 // All questions of a full reading. The pieces are written as they are read, so a late refusal leaves the earlier ones.
-fn ask_all(
-    text: &[u8],
-    words: &mut [u64],
-    directory: &mut [u64],
-) -> Result<Written, Refusal>
+fn ask_all(text: &[u8], words: &mut [u64], directory: &mut [u64]) -> Result<Written, Refusal>
     ensures { AllAsked text.now (length words.old) (length directory.old) words.new directory.new result }
 {
     text_whole::text_asked(text)?;

@@ -10,7 +10,7 @@ use lib.ListN.{length, length-append}
 use Rattle.records.specs.Pieces.{Run, done, stop, item, map_run, Verdict, fine, refused, judge}
 use Rattle.piece_room.specs.Rooms.{room_of, after_room}
 use Rattle.reread_kept.specs.Place.{Taken, full_then, read_size, read_words}
-use Rattle.std.specs.Prelude.{Result, Ok, Err}
+use Rattle.std.specs.Prelude.{Ok, Err}
 use Rattle.piece_room.proofs.Judge.{judge_item}
 use Rattle.reread_kept.proofs.Place.{full_snoc, size_snoc, words_snoc}
 

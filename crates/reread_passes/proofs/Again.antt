@@ -19,7 +19,7 @@ use Rattle.theorem_edits.specs.Law.{Grammar}
 use Rattle.piece_room.specs.Rooms.{room_of, after_room}
 use Rattle.piece_directory.specs.Olds.{olds_of, Chained}
 use Rattle.reread_kept.specs.Place.{Taken, read_then, read_size, read_words, rest_left, Settled}
-use Rattle.std.specs.Prelude.{Result, Ok, Err}
+use Rattle.std.specs.Prelude.{Ok, Err}
 use Rattle.piece_directory.proofs.Links.{olds_length, words_split, no_more}
 use Rattle.piece_room.proofs.Judge.{judge_item}
 use Rattle.reread_kept.proofs.Place.{read_snoc, size_snoc, words_snoc}

@@ -1,6 +1,5 @@
 -- The first pass decides the answer and writes nothing; then the move and the second pass leave what the definition says, and the rest is cleared.
 use native.Mathlib.Omega.{arith}
-use lib.ListN.{length}
 use Rattle.piece_directory.specs.Olds.{olds_of}
 use Rattle.theorem_refusals.specs.Common.{common_le_newer}
 use Rattle.std.proofs.lemmas.Result.{err_from_is_err_and}
