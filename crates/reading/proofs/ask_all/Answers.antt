@@ -14,7 +14,7 @@ returns-in_err-text_asked c =
     (refused_text (length c.args.words.now) (length c.args.directory.now) c.args.text.now c.in_err-text_asked.field-0.0.question c.in_err-text_asked.field-0.0.place c.in_err-text_asked.ensures, refl, refl)
 
 pub read_pieces-requires : goal.read_pieces-requires
-read_pieces-requires c = not_long c.args.text.now c.in_ok-text_asked.ensures
+read_pieces-requires c = record { text_len_bound = not_long c.args.text.now c.in_ok-text_asked.ensures }
 
 pub returns : goal.returns
 returns c =
