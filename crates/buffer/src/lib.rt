@@ -1,7 +1,7 @@
 // Texts that are written: bytes and numbers in a lent buffer, as far as it reaches, and never more than a written text may have (27).
 #![tactic(auto)]
 
-ghost use Rattle.std.specs.Prelude.{◌≡◌, ◌≤◌, drop};
+ghost use Rattle.std.specs.Prelude.{◌≡◌};
 ghost use Rattle.buffer.specs.Stored.{onward, with_byte, Stores};
 ghost use Rattle.buffer.specs.Decimal.{decimal};
 
@@ -32,30 +32,10 @@ pub fn put_all(out: &mut [u8], at: usize, bytes: &[u8]) -> usize
     k
 }
 
-// The most digits of a number of 64 bits.
-const DIGITS: usize = 20;
-
-// A number's digits, made from the last on and put at the end of a lent array; where they begin in it.
-fn digits_of(n: u64, bytes: &mut [u8; DIGITS]) -> usize
-    ensures digits { drop result bytes.new ≡ decimal n }
-    ensures within { result ≤ 20 }
-{
-    let mut m = n;
-    for from in (0..DIGITS).rev() {
-        bytes[from] = b'0' + (m % 10) as u8;
-        if m < 10 {
-            return from;
-        }
-        m /= 10;
-    }
-    0
-}
-
 // A number in decimal; the place behind it.
 pub fn put_decimal(out: &mut [u8], at: usize, n: u64) -> usize
     ensures { Stores (decimal n) at out.old result out.new }
 {
-    let mut bytes = [0u8; DIGITS];
-    let from = digits_of(n, &mut bytes);
-    put_all(out, at, &bytes[from..])
+    let mut digits = itoa::Buffer::new();
+    put_all(out, at, digits.format(n).as_bytes())
 }

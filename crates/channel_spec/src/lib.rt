@@ -1,9 +1,9 @@
 // Channel rules per account class (02: M-102): definitions, and what is lent and told.
-// A rule, as it is lent: a class, whether it may fire (0 is no, all else yes), and the first and the last channel.
 #![tactic(auto)]
 
 use records::Refusal;
 
+// A rule, as it is lent: a class, whether it may fire (0 is no, all else yes), and the first and the last channel.
 #[repr(C)]
 #[derive(Clone, Copy)]
 pub struct Rule {

@@ -340,27 +340,14 @@ pub fn begin(asked: u64, fired: Fired, count: usize) -> Search
     pass(s, Question::Bad, none)
 }
 
-// The last channel of a rule: a number of 16 bits, as its type says.
-fn last_of(rule: Rule) -> u16
-    ensures { result ≡ rule.last }
-{
-    rule.last
-}
-
-// The rule at a place of the table.
+// The rule at a place of the table. Its last channel is read, so that it is known to be a number of 16 bits.
 fn rule_at(rules: &[Rule], at: usize) -> Rule
     requires { at < length rules.now }
     ensures copied { (d : Rule) → result ≡ slice_index_or rules.now at d }
     ensures last_fits { result.last < channels }
 {
-    let rule = rules[at];
-    let last = last_of(rule);
-    Rule {
-        account_class: rule.account_class,
-        allowed: rule.allowed,
-        first: rule.first,
-        last,
-    }
+    let _last = rules[at].last;
+    rules[at]
 }
 
 // What the table and a call say to a class.
@@ -368,9 +355,9 @@ pub fn judged(rules: &[Rule], asked: u64, fired: Fired) -> Told
     ensures { result ≡ ruling asked rules.now fired }
 {
     let mut s = begin(asked, fired, rules.len());
+    // a `while`: `shown` says which rule comes next, and after a pass it is the last one again
     while s.at < rules.len() {
-        let at = s.at;
-        s = shown(s, rule_at(rules, at));
+        s = shown(s, rule_at(rules, s.at));
     }
     s.told
 }

@@ -1,20 +1,25 @@
--- Keywords by their rank in a table, and the laws of `rank_if`. A word that differs from the first of a table has one more than its rank in the rest.
+-- Keywords by their rank in a table, which is the first place where the word stands, and the laws of `rank_if`.
 -- Assumes nothing.
 use mathlib.Core.Path.{◌≡◌, refl, sym, ap, ◌∙◌, subst}
 use mathlib.Core.List.{List, [], ◌∷◌}
-use mathlib.Core.Bool.{Bool, true, false, ◌&&◌}
+use mathlib.Core.Bool.{Bool, true, false, not, ◌&&◌}
+use mathlib.Core.Logic.{inl, inr}
 use Prim.Native.Nat.{ℕ, suc, ◌+◌, ◌-◌, ◌≤◌, ◌<◌}
 use native.Mathlib.Omega.{arith}
 use native.Mathlib.Nat.{add-zero}
 use lib.Dec.{ltb, leb, eqb, T}
 use lib.Pointwise.{pointwise}
-use Rattle.std.specs.Prelude.{nat_eq, min, max}
+use Rattle.std.specs.Prelude.{Option, Some, None, cond, nat_eq, min, max}
+use Rattle.std.specs.Option.{unwrap_or}
+use Rattle.std.specs.List.{position_or_len}
+use Rattle.std.specs.Slice.{IsGetRangeResult}
 use Rattle.std.proofs.Common.{Bor}
-use Rattle.std.proofs.Math.Nat.{min-eq_left, min-eq_right, le-max_left, le-max_right, max-le}
-use Rattle.std.proofs.lemmas.List.{drop_more}
+use Rattle.std.proofs.lemmas.List.Recursion.{is_position_or_len}
+use Rattle.std.proofs.lemmas.List.Sums.{prefix_len-le-length}
+use Rattle.std.proofs.Math.Nat.{min-eq_left, min-eq_right, le-max_left, le-max_right, max-le, min-le_right}
 use lib.ListN.{length, get_or, take, drop, length-drop, drop_of_length-le}
-use lib.Seq.{drop-drop, take_all, take-length, take-nil, drop-length}
-use borrow.Author.Tests.{eq-eqb, ne_eqb, lt-ltb, le-ltb, leb-true, leb-false, ltb-true, ltb-false}
+use lib.Seq.{take_all, take-nil}
+use borrow.Author.Tests.{lt-ltb, le-ltb, leb-true, leb-false, ltb-true, ltb-false}
 use Rattle.program.specs.Class.{class_of, is_word}
 use Rattle.program.specs.Prog.{Prog, Res, run, lead_word}
 use Rattle.grammar.specs.Lexer.{same_word, rank, rank_if, eat_n}
@@ -40,24 +45,28 @@ pub words_length : (table : List (Bor (List ℕ))) → length (words_of table) �
 words_length [] = refl
 words_length (x ∷ table) = ap suc (words_length table)
 
-rank_step : (w k : List ℕ) (ks : List (List ℕ)) (b : Bool) → same_word w k ≡ b → rank w (k ∷ ks) ≡ elim b [ true ↦ 0 | false ↦ suc (rank w ks) ]
-unfolding rank
-rank_step w k ks b e = ap {B = ℕ} (λ (z : Bool). elim z [ true ↦ 0 | false ↦ suc (rank w ks) ]) e
+-- the rank is the first place whose word is w, or the table's length
+module _ (w : List ℕ) where
+  abbrev is_w : Bor (List ℕ) → Bool
+  is_w word = same_word w word.now
 
--- word number k, where the code has compared it
-module _ (w : List ℕ) (table : List (Bor (List ℕ))) (k : ℕ) (word : Bor (List ℕ)) (b : Bool) (h : k < length table) (e : b ≡ pointwise nat_eq w (get_or table k word).now) where
-  at_k : (z : Bool) → b ≡ z → rank w (words_of (drop k table)) ≡ elim z [ true ↦ 0 | false ↦ suc (rank w (words_of (drop (k + 1) table))) ]
-  at_k z t = rw (drop_more table k word h) (rank_step w (get_or table k word).now (words_of (drop (k + 1) table)) z (sym (same_bytes w (get_or table k word).now) ∙ sym e ∙ t))
+  rank_place : (table : List (Bor (List ℕ))) → rank w (words_of table) ≡ position_or_len is_w table
+  unfolding rank
+  rank_place = is_position_or_len (λ table. rank w (words_of table)) is_w refl (λ x xs. step (same_word w x.now) (rank w (words_of xs)))
+    where
+      step : (z : Bool) (r : ℕ) → elim z [ true ↦ 0 | false ↦ suc r ] ≡ cond z 0 (1 + r)
+      step true r = refl
+      step false r = omega arith
 
-  pub rank_hit : b ≡ true → k + rank w (words_of (drop k table)) ≡ k
-  rank_hit t = rw (at_k true t) (add-zero k)
-
-  pub rank_miss : b ≡ false → k + rank w (words_of (drop k table)) ≡ k + 1 + rank w (words_of (drop (k + 1) table))
-  rank_miss t = rw (at_k false t) (omega arith)
-
-pub rank_out : (w : List ℕ) (table : List (Bor (List ℕ))) (k : ℕ) → length table ≤ k → k ≤ length table → k + rank w (words_of (drop k table)) ≡ length table
-unfolding rank
-rank_out w table k h l = rw (drop_of_length-le table h) (omega arith)
+  pub rank_found : (table : List (Bor (List ℕ))) (r : Option ℕ) → r ≡ cond (ltb (position_or_len (λ word. same_word w word.now) table) (length table)) (Some (position_or_len (λ word. same_word w word.now) table)) None → unwrap_or r (length table) ≡ rank w (words_of table)
+  rank_found table r e = rw (e, rank_place table) (within _ _ (prefix_len-le-length (λ word. not (same_word w word.now)) table))
+    where
+      within : (p n : ℕ) → p ≤ n → unwrap_or (cond (ltb p n) (Some p) None) n ≡ p
+      within p n l = go (ltb p n) refl
+        where
+          go : (z : Bool) → ltb p n ≡ z → unwrap_or (cond z (Some p) None) n ≡ p
+          go true t = refl
+          go false t = let k : n ≤ p = ltb-false _ _ t in omega arith
 
 -- the bytes from a place to another, as far as the text reaches
 module _ (text : List ℕ) (from to end : ℕ) (m : end ≡ min to (length text)) where
@@ -91,6 +100,12 @@ module _ (text : List ℕ) (from to end : ℕ) (m : end ≡ min to (length text)
           let n : end ≡ length text = g (omega arith) in
           let z : length text ≤ from = omega arith in
           rw (drop_of_length-le text z) (take-nil (to - from))
+
+-- what `get` finds there, or no bytes
+pub part_got : (text : List ℕ) (from to end : ℕ) (r : Option (Bor (List ℕ))) (d : Bor (List ℕ)) → d.now ≡ [] → end ≡ min to (length text) → IsGetRangeResult text from end r → (unwrap_or r d).now ≡ take (to - from) (drop from text)
+part_got text from to end None d e m (inl h, z) = e ∙ sym (part_none text from to end m h)
+part_got text from to end None d e m (inr h, z) = absurd (let k : end ≤ length text = rw m (min-le_right to (length text)) in omega arith)
+part_got text from to end (Some x) d e m h = h.0.2 ∙ part_is text from to end m h.0.0
 
 -- ---- the next word
 pub lead_le : (s : List ℕ) → length (lead_word s) ≤ length s

@@ -1,9 +1,10 @@
 // Keywords by their rank in a table, which is a constant list of byte strings.
 #![tactic(auto)]
 
-ghost use Rattle.std.specs.Prelude.{◌≡◌, ◌+◌, ◌-◌, length, take, drop};
+ghost use Rattle.std.specs.Prelude.{◌≡◌, List, ℕ, Bool, ◌+◌, ◌-◌, length, take, drop};
+ghost use Rattle.std.specs.Fn.{FnReturnsAt};
 ghost use Rattle.program.specs.Prog.{lead_word};
-ghost use Rattle.grammar.specs.Lexer.{rank, skip_one, skip_all};
+ghost use Rattle.grammar.specs.Lexer.{same_word, rank, skip_one, skip_all};
 ghost use Rattle.records.specs.Limits.{turns};
 ghost use Rattle.lexer.specs.Table.{words_of};
 ghost use Rattle.lexer.specs.Step.{rank_p, ranked_p};
@@ -19,27 +20,37 @@ pub struct Ranked {
     pub r: usize,
 }
 
+// The rank in a table of the word that a test knows: how many words stand before the first that passes it, and the table's length where none does.
+pub fn rank_by<F: Fn(&[u8]) -> bool>(table: &[&[u8]], is_it: F) -> usize
+    requires { F.IsAlwaysCallable is_it }
+    ensures { (w : List ℕ) → ((word : List ℕ) (r : Bool) → FnReturnsAt F.Fn is_it word r → r ≡ same_word w word) → result ≡ rank w (words_of table.now) }
+{
+    table
+        .iter()
+        .position(|word| is_it(word))
+        .unwrap_or(table.len())
+}
+
 // The rank of w in a table: how many words stand before it, and the table's length where it is not in it.
 pub fn rank_in(w: &[u8], table: &[&[u8]]) -> usize
     ensures { result ≡ rank w.now (words_of table.now) }
 {
-    for (k, word) in table.iter().enumerate() {
-        if w == *word {
-            return k;
-        }
-    }
-    table.len()
+    rank_by(table, |word| w == word)
+}
+
+// The bytes of a text from a place to another, as far as it reaches.
+pub fn part(text: &[u8], from: usize, to: usize) -> &[u8]
+    ensures { result.now ≡ take (to - from) (drop from text.now) }
+{
+    let end = to.min(text.len());
+    text.get(from..end).unwrap_or(&[])
 }
 
 // The rank of the bytes of a text from a place to another.
 pub fn rank_of(text: &[u8], from: usize, to: usize, table: &[&[u8]]) -> usize
     ensures { result ≡ rank (take (to - from) (drop from text.now)) (words_of table.now) }
 {
-    let end = to.min(text.len());
-    if from <= end {
-        return rank_in(&text[from..end], table);
-    }
-    rank_in(&[], table)
+    rank_in(part(text, from, to), table)
 }
 
 // The place behind the letters, digits and `_` that stand at `at`.

@@ -1,6 +1,6 @@
 -- Names as they stand in a text: 01, "raw text behind the sigil, quotes included".
 -- Assumes nothing.
-use Rattle.std.specs.Prelude.{◌≡◌, Bool, true, false, List, [], ◌∷◌, ℕ, ◌-◌, ◌<◌, ◌≤◌, eqb, length, take, drop}
+use Rattle.std.specs.Prelude.{◌≡◌, Bool, true, false, List, [], ◌∷◌, ℕ, ◌-◌, ◌<◌, ◌≤◌, eqb, length, take, drop, Option, Some, None}
 use Rattle.program.specs.Bytes.{byte}
 use Rattle.program.specs.Prog.{Prog, ◌>>=◌}
 use Rattle.grammar.specs.Lexer.{Word, plain, quoted, size_of, is_empty_word, unescape, read_word, name_word, eat_ws, byte_if, refuse}
@@ -49,16 +49,21 @@ unfoldable pub spelled_of : Bool → List ℕ → List ℕ
 spelled_of true w = unescape 0 0 w
 spelled_of false w = w
 
+-- In the word w, from a place on, s is spelled: it begins with the letter x and goes on as `rest` spells what is behind x, which is further on.
+pub record Begins (w : List ℕ) (at : ℕ) (s : List ℕ) (rest : List ℕ → List ℕ) (x : Letter) : Type 0 where
+  pub some : s ≡ x.b ∷ rest (drop x.next w)
+  pub on : at < x.next
+  pub within : x.next ≤ length w
+
+-- The first letter of s, if it has one.
+abbrev pub FirstOf : List ℕ → ℕ → List ℕ → (List ℕ → List ℕ) → Option Letter → Type 0
+FirstOf w at s rest None = s ≡ []
+FirstOf w at s rest (Some x) = Begins w at s rest x
+
 -- The byte of an escape, behind its backslash at the place before, and the place behind it, which is further on.
-pub record EscapeAt (w : List ℕ) (at : ℕ) (r : Letter) : Type 0 where
-  pub none : r.there ≡ false → unescape 1 0 (drop at w) ≡ []
-  pub some : r.there ≡ true → unescape 1 0 (drop at w) ≡ r.b ∷ unescape 0 0 (drop r.next w)
-  pub on : r.there ≡ true → at < r.next
-  pub within : r.there ≡ true → r.next ≤ length w
+abbrev pub EscapeAt : List ℕ → ℕ → Option Letter → Type 0
+EscapeAt w at r = FirstOf w at (unescape 1 0 (drop at w)) (unescape 0 0) r
 
 -- The first byte of a spelling from a place on, and the place behind it, which is further on.
-pub record LetterAt (q : Bool) (w : List ℕ) (at : ℕ) (r : Letter) : Type 0 where
-  pub none : r.there ≡ false → spelled_of q (drop at w) ≡ []
-  pub some : r.there ≡ true → spelled_of q (drop at w) ≡ r.b ∷ spelled_of q (drop r.next w)
-  pub on : r.there ≡ true → at < r.next
-  pub within : r.there ≡ true → r.next ≤ length w
+abbrev pub LetterAt : Bool → List ℕ → ℕ → Option Letter → Type 0
+LetterAt q w at r = FirstOf w at (spelled_of q (drop at w)) (spelled_of q) r

@@ -25,10 +25,9 @@ pub struct WordAt {
     pub empty: bool,
 }
 
-// The next byte of a name with escapes undone, if there is one, and the place behind it.
+// A byte of a name with escapes undone, and the place behind it.
 #[derive(Clone, Copy)]
 pub struct Letter {
-    pub there: bool,
     pub b: u16,
     pub next: usize,
 }

@@ -1,10 +1,15 @@
 -- Names with quotes and escapes undone, byte by byte: behind an escape `unescape` is in state 0 again, so the rest is spelled by itself.
 -- Assumes nothing.
-use mathlib.Core.Path.{◌≡◌, refl, sym, ap, ◌∙◌}
+use mathlib.Core.Path.{◌≡◌, refl, ap, ◌∙◌}
 use mathlib.Core.List.{List, [], ◌∷◌}
 use mathlib.Core.Bool.{Bool, true, false}
-use Prim.Native.Nat.{ℕ, ◌+◌, ◌-◌, ◌*◌, ◌≤◌, ◌<◌}
+use mathlib.Core.Logic.{◌⊎◌, inl, inr}
+use Prim.Native.Nat.{ℕ, ◌+◌, ◌*◌, ◌≤◌, ◌<◌}
 use native.Mathlib.Omega.{arith}
+use Rattle.std.proofs.Common.{Bor}
+use Rattle.std.specs.Prelude.{Option, Some, None}
+use Rattle.std.specs.Option.{option_copied, option_eq}
+use Rattle.std.specs.List.{slice_get}
 use lib.ListN.{length, get_or, drop, drop_of_length-le}
 use lib.Dec.{eqb}
 use borrow.Author.Tests.{eq-eqb, ne_eqb}
@@ -13,21 +18,23 @@ use Rattle.grammar.specs.Lexer.{same_word, plain, quoted, unescape, spelled}
 use Rattle.lexer_names.specs.Names.{is_quoted, inner, raw_word, spelled_of, EscapeAt, LetterAt}
 use Rattle.lexer_names.specs.declared.Letter.{Letter}
 use Rattle.program.specs.Lists.{drop_next}
-use Rattle.lexer.proofs.Laws.{true_false}
 
 -- ---- quotes
-pub quoted_in : (raw : List ℕ) → 0 < length raw → eqb (get_or raw 0 0) 34 ≡ is_quoted raw
-unfolding is_quoted
-quoted_in [] h = absurd (omega arith)
-quoted_in (x ∷ r) h = refl
+is_quote : Option ℕ → Bool
+is_quote (Some x) = eqb x 34
+is_quote None = false
 
-pub quoted_out : (raw : List ℕ) → length raw ≤ 0 → false ≡ is_quoted raw
-unfolding is_quoted
-quoted_out [] h = refl
-quoted_out (x ∷ r) h = absurd (omega arith)
+pub quoted_first : (raw : List ℕ) (o : Option (Bor ℕ)) (q : Bor ℕ) → q.now ≡ 34 → option_copied o ≡ slice_get raw 0 → option_eq (λ x y. eqb x.now y.now) o (Some q) ≡ is_quoted raw
+unfolding is_quoted is_quote
+quoted_first raw o q t e = left o ∙ ap is_quote e ∙ right raw
+  where
+    left : (o : Option (Bor ℕ)) → option_eq (λ x y. eqb x.now y.now) o (Some q) ≡ is_quote (option_copied o)
+    left None = refl
+    left (Some p) = rw t
 
-pub inner_none : (raw : List ℕ) → length raw < 2 → [] ≡ inner raw
-inner_none raw h = let z : length raw - 2 ≡ 0 = omega arith in rw z
+    right : (raw : List ℕ) → is_quote (slice_get raw 0) ≡ is_quoted raw
+    right [] = refl
+    right (x ∷ r) = refl
 
 pub spelled_quoted : (raw : List ℕ) → is_quoted raw ≡ true → spelled (raw_word raw) ≡ spelled_of true (inner raw)
 unfolding spelled raw_word spelled_of
@@ -42,18 +49,6 @@ unfolding spelled_of
 as_it_is w = refl
 
 -- ---- one byte
-pub escape_none : (w : List ℕ) (at : ℕ) (r : Letter) → r.there ≡ false → unescape 1 0 (drop at w) ≡ [] → EscapeAt w at r
-escape_none w at r t e = record { none = λ z. e; some = λ z. true_false (sym t ∙ z); on = λ z. true_false (sym t ∙ z); within = λ z. true_false (sym t ∙ z) }
-
-pub escape_some : (w : List ℕ) (at : ℕ) (r : Letter) → r.there ≡ true → unescape 1 0 (drop at w) ≡ r.b ∷ unescape 0 0 (drop r.next w) → at < r.next → r.next ≤ length w → EscapeAt w at r
-escape_some w at r t e o i = record { none = λ z. true_false (sym z ∙ t); some = λ z. e; on = λ z. o; within = λ z. i }
-
-pub letter_none : (q : Bool) (w : List ℕ) (at : ℕ) (r : Letter) → r.there ≡ false → spelled_of q (drop at w) ≡ [] → LetterAt q w at r
-letter_none q w at r t e = record { none = λ z. e; some = λ z. true_false (sym t ∙ z); on = λ z. true_false (sym t ∙ z); within = λ z. true_false (sym t ∙ z) }
-
-pub letter_some : (q : Bool) (w : List ℕ) (at : ℕ) (r : Letter) → r.there ≡ true → spelled_of q (drop at w) ≡ r.b ∷ spelled_of q (drop r.next w) → at < r.next → r.next ≤ length w → LetterAt q w at r
-letter_some q w at r t e o i = record { none = λ z. true_false (sym z ∙ t); some = λ z. e; on = λ z. o; within = λ z. i }
-
 -- what stands at a place
 module _ (w : List ℕ) (at : ℕ) where
   pub escape_out : length w ≤ at → unescape 1 0 (drop at w) ≡ []
@@ -78,31 +73,27 @@ module _ (w : List ℕ) (at : ℕ) where
     unfolding unescape
     escape_cut n k = first n ∙ rw (drop_of_length-le w k)
 
-    pub escape_pair : (get_or w at 0 ≡ 92 → ⊥) → at + 1 < length w → (b m l : ℕ) → m ≡ class_of (get_or w at 0) → l ≡ class_of (get_or w (at + 1) 0) → b ≡ m * 16 + l → unescape 1 0 (drop at w) ≡ b ∷ unescape 0 0 (drop (at + 1 + 1) w)
+    pub escape_pair : (get_or w at 0 ≡ 92 → ⊥) → at + 1 < length w → (m l : ℕ) → m ≡ class_of (get_or w at 0) → l ≡ class_of (get_or w (at + 1) 0) → unescape 1 0 (drop at w) ≡ (m * 16 + l) ∷ unescape 0 0 (drop (at + 2) w)
     unfolding unescape
-    escape_pair n k b m l e f g = first n ∙ rw (drop_next w (at + 1) k, g, e, f)
+    escape_pair n k m l e f =
+        let z : at + 1 + 1 ≡ at + 2 = omega arith in
+        first n ∙ rw (drop_next w (at + 1) k, e, f, z)
 
     pub letter_back : get_or w at 0 ≡ 92 → spelled_of true (drop at w) ≡ unescape 1 0 (drop (at + 1) w)
     unfolding spelled_of unescape
     letter_back e = rw (drop_next w at h, eq-eqb _ _ e)
 
-    pub letter_as : (get_or w at 0 ≡ 92 → ⊥) → spelled_of true (drop at w) ≡ get_or w at 0 ∷ spelled_of true (drop (at + 1) w)
+    -- any other byte, or one of a word without quotes
+    pub letter_itself : (q : Bool) (x : ℕ) → x ≡ get_or w at 0 → ((q ≡ true) × (x ≡ 92 → ⊥)) ⊎ (q ≡ false) → spelled_of q (drop at w) ≡ x ∷ spelled_of q (drop (at + 1) w)
     unfolding spelled_of unescape
-    letter_as n = rw (drop_next w at h, ne_eqb _ _ n)
-
-    pub letter_plain : spelled_of false (drop at w) ≡ get_or w at 0 ∷ spelled_of false (drop (at + 1) w)
-    unfolding spelled_of
-    letter_plain = drop_next w at h
+    letter_itself q x e (inl (t, n)) = rw (t, drop_next w at h, ← e, ne_eqb _ _ n)
+    letter_itself q x e (inr t) = rw (t, e) (drop_next w at h)
 
 -- behind the backslash
-pub letter_escaped : (w : List ℕ) (at : ℕ) (r : Letter) → at < length w → get_or w at 0 ≡ 92 → EscapeAt w (at + 1) r → LetterAt true w at r
+pub letter_escaped : (w : List ℕ) (at : ℕ) (r : Option Letter) → at < length w → get_or w at 0 ≡ 92 → EscapeAt w (at + 1) r → LetterAt true w at r
 unfolding spelled_of
-letter_escaped w at r h e x = record {
-  none = λ z. letter_back w at h e ∙ x.none z;
-  some = λ z. letter_back w at h e ∙ x.some z;
-  on = λ z. omega (arith, x.on z);
-  within = x.within;
-}
+letter_escaped w at None h e x = letter_back w at h e ∙ x
+letter_escaped w at (Some l) h e x = record { some = letter_back w at h e ∙ x.some; on = omega (arith, x.on); within = x.within }
 
 -- ---- two spellings
 module _ (s t : List ℕ) where

@@ -16,19 +16,16 @@ pub fn position_of(text: &[u8], place: usize) -> Position
 {
     let mut line = 1;
     let mut column = 1;
-    for i in 0..place {
-        if text.len() <= i {
-            return Position {
-                line,
-                column: column + 1,
-            };
-        }
-        if text[i] == b'\n' {
+    for b in &text[..place.min(text.len())] {
+        if *b == b'\n' {
             line += 1;
             column = 1;
         } else {
             column += 1;
         }
+    }
+    if text.len() < place {
+        column += 1;
     }
     Position { line, column }
 }

@@ -13,6 +13,7 @@ use Rattle.lexer.specs.Reads.{Leads, Goal}
 use Rattle.lexer.specs.declared.Cursor.{Cursor}
 use Rattle.lexer.specs.Parsed.{Parsed, Ok}
 use Rattle.lexer.proofs.Laws.{true_false, some_word, run_eat, moved}
+use Rattle.std.specs.Prelude.{Some}
 use Rattle.value_leaves.specs.Leaf.{Tried}
 
 read_word_lem : (text : List ℕ) (p : Parsed) (kw : List ℕ) {r z : Bool} {cur : Cursor} → r ≡ word_p text p kw → r ≡ z → p ≡ Ok cur → same_word (lead_word (drop cur.at text)) kw ≡ z
@@ -44,5 +45,5 @@ module _ {A : Type 0} {mid : List ℕ} {E : Goal A} {text : List ℕ} {p0 p p' :
   }
 
 -- the same answer, made anew
-pub tried_anew : {F : Prog (List ℕ) → Prog (List ℕ)} {text : List ℕ} {p q r : Parsed} {words words' : List ℕ} {hit : Bool} → r ≡ q → Tried F text p words q hit words' → Tried F text p words r hit words'
-tried_anew {F} {text} {p} {q} {r} {words} {words'} {hit} e t = subst (λ (z : Parsed). Tried F text p words z hit words') (sym e) t
+pub tried_anew : {F : Prog (List ℕ) → Prog (List ℕ)} {text : List ℕ} {p q r : Parsed} {words words' : List ℕ} → r ≡ q → Tried F text p words (Some q) words' → Tried F text p words (Some r) words'
+tried_anew {F} {text} {p} {q} {r} {words} {words'} e t = subst (λ (z : Parsed). Tried F text p words (Some z) words') (sym e) t

@@ -1,6 +1,6 @@
 -- What the code of the values holds of their programs.
 -- Assumes nothing.
-use Rattle.std.specs.Prelude.{◌≡◌, Bool, true, false, List, [], ◌∷◌, ℕ, suc, ◌≤◌, ◌<◌, length, Option, Some, None}
+use Rattle.std.specs.Prelude.{◌≡◌, Bool, true, false, List, [], ◌∷◌, ℕ, suc, ◌≤◌, ◌<◌, length, Option, Some, None, MatchOption}
 use Rattle.program.specs.Bytes.{bytes}
 use Rattle.program.specs.Prog.{Prog, ret, ◌>>=◌}
 use Rattle.records.specs.Words.{node}
@@ -12,10 +12,13 @@ use Rattle.lexer.specs.Step.{rank_p, ranked_p}
 use Rattle.lexer.specs.Reads.{made, Leads, Gives, Comes, same}
 use Rattle.lexer.specs.Parsed.{Parsed}
 
--- A form of F is read, or none stands here and what comes next decides.
-pub record Tried (F : Prog (List ℕ) → Prog (List ℕ)) (text : List ℕ) (p : Parsed) (words : List ℕ) (p' : Parsed) (hit : Bool) (words' : List ℕ) : Type 0 where
-  pub yes : hit ≡ true → (g : Prog (List ℕ)) → Leads (F g) 0 [] (made same text p) text p p words p' words'
-  pub no : hit ≡ false → (g : Prog (List ℕ)) {q : Parsed} {v : List ℕ} → Leads g 0 [] (made same text p) text p p words' q v → Leads (F g) 0 [] (made same text p) text p p words q v
+-- No form of F stands here, and what comes next decides.
+pub record Passed (F : Prog (List ℕ) → Prog (List ℕ)) (text : List ℕ) (p : Parsed) (words words' : List ℕ) : Type 0 where
+  pub on : (g : Prog (List ℕ)) {q : Parsed} {v : List ℕ} → Leads g 0 [] (made same text p) text p p words' q v → Leads (F g) 0 [] (made same text p) text p p words q v
+
+-- A form of F is read, or none stands here.
+abbrev pub Tried : (Prog (List ℕ) → Prog (List ℕ)) → List ℕ → Parsed → List ℕ → Option Parsed → List ℕ → Type 0
+Tried F text p words r words' = MatchOption r (Passed F text p words words') (λ p'. (g : Prog (List ℕ)) → Leads (F g) 0 [] (made same text p) text p p words p' words')
 
 -- the values that are a word, or g
 unfoldable pub key_values : Prog (List ℕ) → Prog (List ℕ)

@@ -13,7 +13,6 @@ ghost use Rattle.lexer.specs.Reads.{Leads, Reads, Gives, made, same};
 ghost use Rattle.value_leaves.specs.Leaf.{Tried, key_values, Op, FlagStep};
 
 use lexer::Parsed;
-use number_nodes::Hit;
 
 // An operator's rank, where one stands.
 #[derive(Clone, Copy)]
@@ -142,40 +141,40 @@ fn bool_node(words: &mut [u64], p: Parsed, x: u64) -> Parsed
 }
 
 // The values that are a word. No two words stand at one place, so they are tried by how often they come.
-fn key_value(text: &[u8], words: &mut [u64], p: Parsed) -> Hit
-    ensures { Tried key_values text.now p words.old result.p result.hit words.new }
+fn key_value(text: &[u8], words: &mut [u64], p: Parsed) -> Option<Parsed>
+    ensures { Tried key_values text.now p words.old result words.new }
 {
     if lexer::word(text, p, b"null") {
         let q = lexer::pass_word(text, p, b"null");
         let r = type_leaves::leaf(words, q, records::K_NULL);
-        return Hit { p: r, hit: true };
+        return Some(r);
     }
     if lexer::word(text, p, b"true") {
         let q = lexer::pass_word(text, p, b"true");
         let r = bool_node(words, q, 1);
-        return Hit { p: r, hit: true };
+        return Some(r);
     }
     if lexer::word(text, p, b"false") {
         let q = lexer::pass_word(text, p, b"false");
         let r = bool_node(words, q, 0);
-        return Hit { p: r, hit: true };
+        return Some(r);
     }
     if lexer::word(text, p, b"undef") {
         let q = lexer::pass_word(text, p, b"undef");
         let r = type_leaves::leaf(words, q, records::K_UNDEF);
-        return Hit { p: r, hit: true };
+        return Some(r);
     }
     if lexer::word(text, p, b"poison") {
         let q = lexer::pass_word(text, p, b"poison");
         let r = type_leaves::leaf(words, q, records::K_POISON);
-        return Hit { p: r, hit: true };
+        return Some(r);
     }
     if lexer::word(text, p, b"zeroinitializer") {
         let q = lexer::pass_word(text, p, b"zeroinitializer");
         let r = type_leaves::leaf(words, q, records::K_ZERO_INIT);
-        return Hit { p: r, hit: true };
+        return Some(r);
     }
-    Hit { p, hit: false }
+    None
 }
 
 // `c".."`, or 6 where no quote is behind the `c`.
@@ -197,47 +196,43 @@ fn cstring_value(text: &[u8], words: &mut [u64], p: Parsed) -> Parsed
 }
 
 // The values that hold no other.
-fn any_leaf(text: &[u8], words: &mut [u64], p: Parsed) -> Hit
-    ensures { Tried leaf_values text.now p words.old result.p result.hit words.new }
+fn any_leaf(text: &[u8], words: &mut [u64], p: Parsed) -> Option<Parsed>
+    ensures { Tried leaf_values text.now p words.old result words.new }
 {
     if lexer::looks(text, p, b'%') {
         let q = lexer::pass(text, p, 1);
         let r = type_leaves::name_node(text, words, q, records::K_LOCAL);
-        return Hit { p: r, hit: true };
+        return Some(r);
     }
     if lexer::looks(text, p, b'@') {
         let q = lexer::pass(text, p, 1);
         let r = type_leaves::name_node(text, words, q, records::K_GLOBAL);
-        return Hit { p: r, hit: true };
+        return Some(r);
     }
-    let n = number_nodes::numeric(text, words, p);
-    let q = n.p;
-    if n.hit {
-        return Hit { p: q, hit: true };
+    if let Some(r) = number_nodes::numeric(text, words, p) {
+        return Some(r);
     }
-    let k = key_value(text, words, p);
-    let s = k.p;
-    if k.hit {
-        return Hit { p: s, hit: true };
+    if let Some(r) = key_value(text, words, p) {
+        return Some(r);
     }
     if lexer::word(text, p, b"c") {
         let r = cstring_value(text, words, p);
-        return Hit { p: r, hit: true };
+        return Some(r);
     }
     if lexer::tests::starts(text, p, b"f0x") {
         let t = lexer::pass_word(text, p, b"f0x");
         let r = number_nodes::f0x_value(text, words, t);
-        return Hit { p: r, hit: true };
+        return Some(r);
     }
-    Hit { p, hit: false }
+    None
 }
 
 // The same, its answer made anew.
-pub fn leaf_value(text: &[u8], words: &mut [u64], p: Parsed) -> Hit
-    ensures { Tried leaf_values text.now p words.old result.p result.hit words.new }
+pub fn leaf_value(text: &[u8], words: &mut [u64], p: Parsed) -> Option<Parsed>
+    ensures { Tried leaf_values text.now p words.old result words.new }
 {
-    let h = any_leaf(text, words, p);
-    let q = h.p;
-    let r = lexer::anew(q);
-    Hit { p: r, hit: h.hit }
+    match any_leaf(text, words, p) {
+        Some(r) => Some(lexer::anew(r)),
+        None => None,
+    }
 }

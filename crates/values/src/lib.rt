@@ -99,15 +99,17 @@ fn gep_indices(
     let mut n: u16 = 3;
     for _left in (0..records::LIST_TURNS).rev() {
         let e = lexer::comma_or(text, q, b')');
-        let q1 = e.p;
-        if e.more {
-            let q2 = lexer::skip_keyword(text, q1, b"inrange");
-            let x = pair_child(text, words, q2, n, depth);
-            q = x.p;
-            n = x.n;
-        } else {
-            return Listed { p: q1, n, dots: 0 };
+        if !e.more {
+            return Listed {
+                p: e.p,
+                n,
+                dots: 0,
+            };
         }
+        let q2 = lexer::skip_keyword(text, e.p, b"inrange");
+        let x = pair_child(text, words, q2, n, depth);
+        q = x.p;
+        n = x.n;
     }
     let q1 = lexer::refuse(q, records::Q_CHILDREN);
     Listed { p: q1, n, dots: 0 }
@@ -215,9 +217,7 @@ pub fn parse_value(
     if depth == 0 {
         return lexer::refuse(q, records::Q_DEPTH);
     }
-    let h = value_leaves::leaf_value(text, words, q);
-    let r = h.p;
-    if h.hit {
+    if let Some(r) = value_leaves::leaf_value(text, words, q) {
         return r;
     }
     if lexer::looks(text, q, b'[') {

@@ -1,12 +1,14 @@
-use mathlib.Core.Path.{sym, ◌∙◌}
-use Rattle.lexer_keywords.proofs.Ranks.{rank_hit, rank_miss, rank_out}
+-- The test is `==`, which tells whether two words are the same.
+use mathlib.Core.Path.{◌≡◌, ap, ◌∙◌}
+use lib.Pointwise.{pointwise}
+use Rattle.std.specs.Prelude.{nat_eq}
+use borrow.Author.Rules.{rules}
+use Rattle.grammar.specs.Lexer.{same_word}
+use Rattle.lexer_keywords.proofs.Ranks.{same_bytes}
 use Rattle.lexer_keywords.proofs.rank_in.Goals as goal
 
-pub returns-then-eq : goal.returns-then-eq
-returns-then-eq c = sym (c.loop-k.invariant ∙ rank_hit _ _ _ _ _ c.loop-k-test.true c.eq.ensures c.if-eq.true)
-
-pub loop-k-preserved : goal.loop-k-preserved
-loop-k-preserved c = c.loop-k.invariant ∙ rank_miss _ _ _ _ _ c.loop-k-test.true c.eq.ensures c.if-eq.false
-
 pub returns : goal.returns
-returns c = sym (c.loop-k.invariant ∙ rank_out _ _ _ c.loop-k-test.false c.loop-k.auto.k-end)
+returns c =
+    c.rank_by.ensures c.args.w.now (λ word r x.
+    let e : r ≡ pointwise nat_eq c.args.w.now x.shown.now = search rules in
+    e ∙ same_bytes c.args.w.now x.shown.now ∙ ap (same_word c.args.w.now) x.shows)

@@ -1,18 +1,14 @@
-use mathlib.Core.Path.{◌≡◌, sym, ◌∙◌}
-use Prim.Native.Nat.{◌+◌, ◌-◌}
-use native.Mathlib.Omega.{arith}
-use lib.ListN.{drop, take}
-use Rattle.lexer_keywords.proofs.Ranks.{rank_hit, rank_miss, rank_out}
+-- The test is whether the word spells the keyword, which is spelled as it stands.
+use mathlib.Core.Path.{◌≡◌, ap, ◌∙◌}
+use mathlib.Core.Bool.{true, false}
+use borrow.Author.Rules.{rules}
+use Rattle.grammar.specs.Lexer.{same_word}
+use Rattle.lexer_names.specs.Names.{spelled_of}
 use Rattle.lexer_spelling.proofs.Letters.{as_it_is}
 use Rattle.lexer_spelling.proofs.rank_quoted.Goals as goal
 
-pub returns-then-same_spelling : goal.returns-then-same_spelling
-returns-then-same_spelling c =
-    let z : c.loop-k.a + c.least-m.result - c.loop-k.a ≡ c.least-m.result = omega arith in sym (c.loop-k.invariant.1 ∙ rank_hit _ _ _ _ _ c.least-m.result c.loop-k-test.true c.loop-k.invariant.0 (λ h. c.least-m.ensures.2.0 (omega arith) ∙ c.wide-n.ensures) (λ h. c.least-m.ensures.2.1 (omega arith)) (rw (z, as_it_is (take c.least-m.result (drop c.loop-k.a c.args.bytes.now))) at (sym c.same_spelling.ensures ∙ c.if-same_spelling.true)))
-
-pub loop-k-preserved : goal.loop-k-preserved
-loop-k-preserved c =
-    let z : c.loop-k.a + c.least-m.result - c.loop-k.a ≡ c.least-m.result = omega arith in (omega arith, c.loop-k.invariant.1 ∙ rank_miss _ _ _ _ _ c.least-m.result c.loop-k-test.true c.loop-k.invariant.0 (λ h. c.least-m.ensures.2.0 (omega arith) ∙ c.wide-n.ensures) (λ h. c.least-m.ensures.2.1 (omega arith)) (rw (z, as_it_is (take c.least-m.result (drop c.loop-k.a c.args.bytes.now))) at (sym c.same_spelling.ensures ∙ c.if-same_spelling.false)))
-
 pub returns : goal.returns
-returns c = sym (c.loop-k.invariant.1 ∙ rank_out _ _ _ _ c.loop-k-test.false)
+returns c =
+    c.rank_by.ensures (spelled_of true c.args.w.now) (λ word r x.
+    let e : r ≡ same_word (spelled_of true c.args.w.now) (spelled_of false x.shown.now) = search rules in
+    e ∙ ap (same_word (spelled_of true c.args.w.now)) (as_it_is x.shown.now ∙ x.shows))

@@ -1,14 +1,13 @@
--- A part of the text that ends behind it is the part up to its end.
-use mathlib.Core.Path.{◌∙◌}
-use Rattle.lexer_keywords.proofs.Ranks.{part_is, part_none}
+-- A quoted word by its spelling, any other as it stands.
+use mathlib.Core.Path.{sym, ◌∙◌}
+use Rattle.lexer_spelling.proofs.Letters.{spelled_quoted, spelled_plain}
 use Rattle.lexer_spelling.proofs.spelled_rank.Goals as goal
 
-pub returns-then-from-end : goal.returns-then-from-end
-returns-then-from-end c =
-    c.rank_raw.ensures ∙ rw
-    (part_is _ _ _ c.least-end.result c.least-end.ensures.2.0 c.least-end.ensures.2.1 c.if-from-end.true)
+pub returns-then-is_quoted : goal.returns-then-is_quoted
+returns-then-is_quoted c =
+    c.rank_quoted.ensures ∙ rw
+    (← c.part-raw.ensures, spelled_quoted c.part-raw.result.now (sym c.is_quoted.ensures ∙ c.if-is_quoted.true), c.between.ensures)
 
 pub returns : goal.returns
 returns c =
-    c.rank_raw-2.ensures ∙ rw
-    (part_none _ _ _ c.least-end.result c.least-end.ensures.2.0 c.least-end.ensures.2.1 c.if-from-end.false)
+    c.rank_in.ensures ∙ rw (← c.part-raw.ensures, spelled_plain c.part-raw.result.now (sym c.is_quoted.ensures ∙ c.if-is_quoted.false))

@@ -1,14 +1,14 @@
--- A part of the text that ends behind it is the part up to its end.
-use mathlib.Core.Path.{◌∙◌}
-use Rattle.lexer_keywords.proofs.Ranks.{part_is, part_none}
+-- A quoted word by its spelling, any other as it stands.
+use mathlib.Core.Path.{sym, ◌∙◌}
+use Rattle.lexer_keywords.proofs.Ranks.{same_bytes}
+use Rattle.lexer_spelling.proofs.Letters.{spelled_quoted, spelled_plain, as_it_is}
 use Rattle.lexer_spelling.proofs.spells.Goals as goal
 
-pub returns-then-from-end : goal.returns-then-from-end
-returns-then-from-end c =
-    c.spells_raw.ensures ∙ rw
-    (part_is _ _ _ c.least-end.result c.least-end.ensures.2.0 c.least-end.ensures.2.1 c.if-from-end.true)
+pub returns-then-is_quoted : goal.returns-then-is_quoted
+returns-then-is_quoted c =
+    c.same_spelling.ensures ∙ rw
+    (← c.part-raw.ensures, spelled_quoted c.part-raw.result.now (sym c.is_quoted.ensures ∙ c.if-is_quoted.true), c.between.ensures, as_it_is c.args.kw.now)
 
 pub returns : goal.returns
 returns c =
-    c.spells_raw-2.ensures ∙ rw
-    (part_none _ _ _ c.least-end.result c.least-end.ensures.2.0 c.least-end.ensures.2.1 c.if-from-end.false)
+    c.eq.ensures ∙ same_bytes c.part-raw.result.now c.args.kw.now ∙ rw (← c.part-raw.ensures, spelled_plain c.part-raw.result.now (sym c.is_quoted.ensures ∙ c.if-is_quoted.false))

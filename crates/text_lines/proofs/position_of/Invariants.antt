@@ -1,6 +1,6 @@
--- The invariant `LineAt`: line and column of i, and what the bytes from i up to the place still add to them.
+-- The invariant `LineAt`: line and column behind the bytes that have been seen.
 use Rattle.text_lines.proofs.Columns.{LineAt}
 use Rattle.text_lines.proofs.position_of.Given as goal
 
-abbrev pub invariant-loop-i : goal.invariant-loop-i
-invariant-loop-i l = LineAt l.text l.place l.i l.line l.column
+abbrev pub invariant-loop-b : goal.invariant-loop-b
+invariant-loop-b l = LineAt l.b-items l.b-index l.line l.column

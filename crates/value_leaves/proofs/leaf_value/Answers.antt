@@ -2,5 +2,5 @@
 use Rattle.value_leaves.proofs.LeafLaws.{tried_anew}
 use Rattle.value_leaves.proofs.leaf_value.Goals as goal
 
-pub returns : goal.returns
-returns c = tried_anew c.anew-r.ensures c.any_leaf-h.ensures
+pub returns-in-Some : goal.returns-in-Some
+returns-in-Some c = tried_anew c.anew.ensures c.in-Some.ensures

@@ -1,4 +1,5 @@
 -- A rank below the table's length is an operator's.
+use mathlib.Core.Path.{◌≡◌, sym, ◌∙◌}
 use native.Mathlib.Omega.{arith}
 use Rattle.lexer_keywords.proofs.Ranks.{words_length}
 use Rattle.value_leaves.proofs.match_op.Goals as goal

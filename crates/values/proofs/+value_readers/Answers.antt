@@ -1,6 +1,7 @@
 use Rattle.std.proofs.lemmas.Bool.{not-false, not-true}
 use mathlib.Core.Path.{refl, ◌∙◌}
 use native.Mathlib.Omega.{arith}
+use borrow.Author.Rules.{rules}
 use Rattle.lexer.proofs.Laws.{done, stay, go_on, then, val, byte_yes, byte_no, word_yes, word_no, fail_is, fail_at, call}
 use Rattle.node_words.proofs.Laws.{push_then, close_is}
 use Rattle.types.proofs.TypeLaws.{type_then, stuck_token, comma_out}
@@ -29,20 +30,20 @@ const_exprs-returns-in-Some bound c =
     (rank_paid _ _ _ (c.match_op-c.ensures.yes _ c.in-Some.is).1 tt (c.match_op-c.ensures.yes _ c.in-Some.is).0
     (call 1 (omega arith) c.parse_ce_conv.ensures))
 
-pub const_exprs-returns-in-Some-2 : goal.const_exprs-returns-in-Some-2
+pub const_exprs-returns-in-Some-rank : goal.const_exprs-returns-in-Some-rank
 unfolding const_exprs conv_ops bin_ops
-const_exprs-returns-in-Some-2 bound c =
+const_exprs-returns-in-Some-rank bound c =
     word_no _ _ c.word.ensures c.if-word.false
-    (rank_no _ _ _ (c.match_op-c.ensures.no c.in-None.is).2 (c.match_op-c.ensures.no c.in-None.is).1
-    (rank_paid _ _ _ (c.match_op-b.ensures.yes _ c.in-Some-2.is).1 tt (c.match_op-b.ensures.yes _ c.in-Some-2.is).0
+    (rank_no _ _ _ (c.match_op-c.ensures.no (search rules)).2 (c.match_op-c.ensures.no (search rules)).1
+    (rank_paid _ _ _ (c.match_op-b.ensures.yes _ c.in-Some-rank.is).1 tt (c.match_op-b.ensures.yes _ c.in-Some-rank.is).0
     (call 1 (omega arith) c.parse_ce_bin.ensures)))
 
 pub const_exprs-returns : goal.const_exprs-returns
 unfolding const_exprs conv_ops bin_ops
 const_exprs-returns bound c =
     word_no _ _ c.word.ensures c.if-word.false
-    (rank_no _ _ _ (c.match_op-c.ensures.no c.in-None.is).2 (c.match_op-c.ensures.no c.in-None.is).1
-    (rank_no _ _ _ (c.match_op-b.ensures.no c.in-None-2.is).2 (c.match_op-b.ensures.no c.in-None-2.is).1 (fail_is _ c.refuse.ensures)))
+    (rank_no _ _ _ (c.match_op-c.ensures.no (search rules)).2 (c.match_op-c.ensures.no (search rules)).1
+    (rank_no _ _ _ (c.match_op-b.ensures.no (search rules)).2 (c.match_op-b.ensures.no (search rules)).1 (fail_is _ c.refuse.ensures)))
 
 pub gep_indices-loop-left-init : goal.gep_indices-loop-left-init
 gep_indices-loop-left-init bound c =
@@ -171,23 +172,23 @@ unfolding holding
 parse_value-returns-then-depth-eq0 bound c =
     value_none c.if-depth-eq0.true c.eat_ws-q.ensures c.refuse.ensures
 
-pub parse_value-returns-then-h : goal.parse_value-returns-then-h
+pub parse_value-returns-in-Some : goal.parse_value-returns-in-Some
 unfolding holding
-parse_value-returns-then-h bound c =
-    value_some _ c.if-depth-eq0.false c.eat_ws-q.ensures (c.leaf_value-h.ensures.yes c.if-h.true _)
+parse_value-returns-in-Some bound c =
+    value_some _ c.if-depth-eq0.false c.eat_ws-q.ensures (c.in-Some.ensures _)
 
 pub parse_value-returns-then-looks : goal.parse_value-returns-then-looks
 unfolding holding
 parse_value-returns-then-looks bound c =
     value_some _ c.if-depth-eq0.false c.eat_ws-q.ensures
-    (c.leaf_value-h.ensures.no c.if-h.false _
+    (c.in_default.ensures.on _
     (byte_yes _ _ c.looks.ensures c.if-looks.true c.pass-q1.ensures (call 1 (omega arith) c.aggregate.ensures)))
 
 pub parse_value-returns-then-looks-2 : goal.parse_value-returns-then-looks-2
 unfolding holding
 parse_value-returns-then-looks-2 bound c =
     value_some _ c.if-depth-eq0.false c.eat_ws-q.ensures
-    (c.leaf_value-h.ensures.no c.if-h.false _
+    (c.in_default.ensures.on _
     (byte_no _ _ c.looks.ensures c.if-looks.false
     (byte_yes _ _ c.looks-2.ensures c.if-looks-2.true c.pass-q1-then-looks-2.ensures (call 1 (omega arith) c.aggregate-then-looks-2.ensures))))
 
@@ -195,7 +196,7 @@ pub parse_value-returns-then-looks-3 : goal.parse_value-returns-then-looks-3
 unfolding holding
 parse_value-returns-then-looks-3 bound c =
     value_some _ c.if-depth-eq0.false c.eat_ws-q.ensures
-    (c.leaf_value-h.ensures.no c.if-h.false _
+    (c.in_default.ensures.on _
     (byte_no _ _ c.looks.ensures c.if-looks.false
     (byte_no _ _ c.looks-2.ensures c.if-looks-2.false
     (byte_yes _ _ c.looks-3.ensures c.if-looks-3.true c.pass-q1-then-looks-3.ensures
@@ -206,7 +207,7 @@ pub parse_value-returns : goal.parse_value-returns
 unfolding holding
 parse_value-returns bound c =
     value_some _ c.if-depth-eq0.false c.eat_ws-q.ensures
-    (c.leaf_value-h.ensures.no c.if-h.false _
+    (c.in_default.ensures.on _
     (byte_no _ _ c.looks.ensures c.if-looks.false
     (byte_no _ _ c.looks-2.ensures c.if-looks-2.false
     (byte_no _ _ c.looks-3.ensures c.if-looks-3.false c.const_exprs.ensures))))

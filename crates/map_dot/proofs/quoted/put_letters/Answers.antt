@@ -1,8 +1,7 @@
 -- A letter is stored, and the rest is still to be stored.
-use mathlib.Core.Path.{◌≡◌, refl, ◌∙◌}
+use mathlib.Core.Path.{◌≡◌, ◌∙◌}
 use mathlib.Core.List.{[]}
 use Prim.Native.Nat.{◌+◌, ◌≤◌}
-use native.Mathlib.Omega.{arith}
 use lib.ListN.{length, drop, drop_of_length-le}
 use Rattle.program.specs.Lists.{drop_next}
 use Rattle.buffer.specs.Stored.{stored, placed}
