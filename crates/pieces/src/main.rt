@@ -6,7 +6,6 @@ ghost use Rattle.grammar.specs.Function.{reading_of};
 ghost use Rattle.pieces_listing.specs.Lines.{printed_of};
 ghost use Rattle.buffer.specs.Stored.{Stores};
 
-use reading::Answer;
 use std::io;
 use std::io::{Read, Stdin, Write};
 
@@ -18,8 +17,8 @@ fn show(text: &[u8], words: &mut [u64], directory: &mut [u64], out: &mut [u8]) -
     ensures { Stores (printed_of text.now (reading_of (length words.old) (length directory.old) text.now)) 0 out.old result out.new }
 {
     match reading::parse_define(text, words, directory) {
-        Answer::Accepted(n) => pieces_listing::list(directory, n, out),
-        Answer::Refused(q, p) => pieces_listing::refusal(text, q, p, out),
+        Ok(n) => pieces_listing::list(directory, n, out),
+        Err(r) => pieces_listing::refusal(text, r.question, r.place as u64, out),
     }
 }
 

@@ -1,6 +1,12 @@
 -- A re-reading as a whole: the front, the first pass, the move, the second pass, and what all that leaves.
 -- What is kept in front is not touched, what is kept behind has moved as one stretch, and the pieces read fill the gap between.
 -- Assumes nothing.
+use Rattle.std.specs.Prelude.{Result, Ok, Err}
+use Rattle.records.specs.declared.Refusal.{Refusal}
+use Rattle.reading_full.specs.Full.{Ended}
+use Rattle.reading_full.specs.declared.Written.{Written}
+use Rattle.reading_full.proofs.Whole.{refused_stopped}
+use Rattle.reading.specs.Answer.{AllAsked}
 use mathlib.Core.Path.{◌≡◌, refl, sym, ap, ◌∙◌, subst}
 use mathlib.Core.Bool.{true, false}
 use mathlib.Core.List.{List, ◌++◌}
@@ -157,3 +163,8 @@ module _ (older newer ws : List ℕ) (n : ℕ) (dir : List ℕ) (g : Given older
           ∙ settled_left (length older) (length newer) ws n dir g.chained (said older newer (length ws) n dir) (behind older newer (length ws) n dir) K S A i pos at j ki refl refl s r w1 d1 b
           w2 w3 (w.long ∙ words_long) tw w.behind ew d2 d3 put ed
           ∙ ap (λ (x : ℕ). again_left (left (count (i + (n - j))) w3 d3) x (i - x)) (sym k_is))
+
+-- ---- a full reading, once questions 1 and 2 do not refuse
+pub all_asked : (W D : ℕ) (text words dir : List ℕ) (r : Result Written Refusal) → fine ≡ text_asked text → Ended text W D words dir r → AllAsked text W D words dir r
+all_asked W D text words dir (Ok n) h g = (h, g)
+all_asked W D text words dir (Err r) h g = (rw (g.long_words, g.long_dir) at (refused_stopped W D text r.question r.place words dir h g), g.long_words, g.long_dir)

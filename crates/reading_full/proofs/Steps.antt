@@ -7,11 +7,10 @@ use Prim.Native.Nat.{ℕ, suc, ◌+◌}
 use native.Mathlib.Numerals.{add-one}
 use native.Mathlib.Omega.{arith}
 use lib.ListN.{length, length-append}
-use Rattle.records.specs.Questions.{q_words, q_entries}
 use Rattle.records.specs.Pieces.{Run, done, stop, item, map_run, Verdict, fine, refused, judge}
 use Rattle.piece_room.specs.Rooms.{room_of, after_room}
 use Rattle.reread_kept.specs.Place.{Taken, full_then, read_size, read_words}
-use Rattle.piece_room.specs.declared.Room.TheVariants.{Fits, Words, Entry}
+use Rattle.std.specs.Prelude.{Ok, Err}
 use Rattle.piece_room.proofs.Judge.{judge_item}
 use Rattle.reread_kept.proofs.Place.{full_snoc, size_snoc, words_snoc}
 
@@ -32,7 +31,7 @@ module _ {W D : ℕ} {v : Verdict} {whole : Run (List ℕ)} {fs : List Taken} {r
   unfolding map_run
   full_turn e d ws r2 h = g.verdict ∙ rw h (judge_item W D i at (length ws) pos e d (map_run length r2))
 
-  pub full_more : (e d : ℕ) (ws : List ℕ) (r2 : Run (List ℕ)) → r ≡ item e d ws r2 → room_of W D i at (length ws) ≡ Fits
+  pub full_more : (e d : ℕ) (ws : List ℕ) (r2 : Run (List ℕ)) → r ≡ item e d ws r2 → room_of W D i at (length ws) ≡ Ok tt
       → ReadFull W D v whole (fs ++ ((e, d, ws) ∷ [])) r2 (i + 1) (pos + e) (at + length ws)
   unfolding after_room
   full_more e d ws r2 h f =
@@ -44,13 +43,9 @@ module _ {W D : ℕ} {v : Verdict} {whole : Run (List ℕ)} {fs : List Taken} {r
         first = omega (arith, g.first, ap length (words_snoc fs e d ws), length-append (read_words fs) ws);
       }
 
-  pub full_no_words : (e d : ℕ) (ws : List ℕ) (r2 : Run (List ℕ)) → r ≡ item e d ws r2 → room_of W D i at (length ws) ≡ Words → v ≡ refused q_words (pos + e)
+  pub full_no_room : (e d : ℕ) (ws : List ℕ) (r2 : Run (List ℕ)) (q : ℕ) → r ≡ item e d ws r2 → room_of W D i at (length ws) ≡ Err q → v ≡ refused q (pos + e)
   unfolding after_room
-  full_no_words e d ws r2 h f = full_turn e d ws r2 h ∙ rw f
-
-  pub full_no_entry : (e d : ℕ) (ws : List ℕ) (r2 : Run (List ℕ)) → r ≡ item e d ws r2 → room_of W D i at (length ws) ≡ Entry → v ≡ refused q_entries (pos + e)
-  unfolding after_room
-  full_no_entry e d ws r2 h f = full_turn e d ws r2 h ∙ rw f
+  full_no_room e d ws r2 q h f = full_turn e d ws r2 h ∙ rw f
 
   pub full_refuses : (q p : ℕ) → r ≡ stop q p → v ≡ refused q (pos + p)
   unfolding map_run judge

@@ -16,11 +16,12 @@ use Rattle.grammar.specs.Function.{head_at, block_at, reading_of}
 use Rattle.theorem_edits.specs.Again.{laws}
 use Rattle.piece_room.specs.Rooms.{room_of, after_room}
 use Rattle.reread_kept.specs.Place.{full_then, read_size, read_words, read_entries}
-use Rattle.piece_room.specs.declared.Room.TheVariants.{Fits}
+use Rattle.std.specs.Prelude.{Result, Ok}
+use Rattle.records.specs.declared.Refusal.{Refusal}
 use Rattle.piece_room.proofs.Judge.{Fitting, fitting, decide}
 use Rattle.reread_kept.proofs.Place.{words_snoc, entries_snoc, entries_length}
 use Rattle.reread_kept.proofs.Final.{Put, put_first, put_next, put_taken, full_left, full_text, full_is}
-use Rattle.reading_full.proofs.Steps.{ReadFull, full_first, full_more, full_no_words, full_no_entry, full_refuses, full_all}
+use Rattle.reading_full.proofs.Steps.{ReadFull, full_first, full_more, full_no_room, full_refuses, full_all}
 use Rattle.piece_directory.specs.Stretch.{Within, Stands}
 use Rattle.reading_full.specs.Full.{pieces, said, Come, Whole, Stopped, Ended}
 use Rattle.reading_full.specs.declared.Written.{Written}
@@ -59,13 +60,12 @@ module _ (text : List ℕ) (W D : ℕ) where
         let it : pieces text ≡ item e 0 g.ws (blocks head_at block_at d (drop e text)) = head_is text e d g.ws g.is in
         record {
           is = decide (room_of W D 0 0 n) (0 + e) q p (said W D text) h
-              (λ r. full_no_words start e 0 g.ws (blocks head_at block_at d (drop e text)) it (rw (← g.many) r))
-              (λ r. full_no_entry start e 0 g.ws (blocks head_at block_at d (drop e text)) it (rw (← g.many) r));
+              (λ n r. full_no_room start e 0 g.ws (blocks head_at block_at d (drop e text)) n it (rw (← g.many) r));
           long_words = g.within.long ∙ lw;
           long_dir = ld;
         }
 
-    pub head_come : (dir2 : List ℕ) → room_of W D 0 0 n ≡ Fits → dir2 ≡ set (set (set dir 0 (pack 0 e)) 1 (pack 0 n)) 2 0 → Come text W D 1 e n d words dir2
+    pub head_come : (dir2 : List ℕ) → room_of W D 0 0 n ≡ Ok tt → dir2 ≡ set (set (set dir 0 (pack 0 e)) 1 (pack 0 n)) 2 0 → Come text W D 1 e n d words dir2
     unfolding full_then read_size read_words read_entries
     head_come dir2 f q =
         let it : pieces text ≡ item e 0 g.ws (blocks head_at block_at d (drop e text)) = head_is text e d g.ws g.is in
@@ -111,12 +111,12 @@ module _ (text : List ℕ) (W D : ℕ) where
       pub tail_room : (q p : ℕ) → ((v : Verdict) → after_room (room_of W D i at 0) (pos + e) v ≡ refused q p) → Stopped text W D q p words dir
       tail_room q p h =
           record {
-            is = decide (room_of W D i at 0) (pos + e) q p (said W D text) h (full_no_words read e d [] done tail_item) (full_no_entry read e d [] done tail_item);
+            is = decide (room_of W D i at 0) (pos + e) q p (said W D text) h (λ n. full_no_room read e d [] done n tail_item);
             long_words = w.long ∙ c.long_words;
             long_dir = c.long_dir;
           }
 
-      pub tail_whole : (dir2 : List ℕ) → room_of W D i at 0 ≡ Fits → dir2 ≡ set (set (set dir (i * entry_words) (pack pos e)) (i * entry_words + 1) (pack at 0)) (i * entry_words + 2) d → Whole text W D (i + 1) at words dir2
+      pub tail_whole : (dir2 : List ℕ) → room_of W D i at 0 ≡ Ok tt → dir2 ≡ set (set (set dir (i * entry_words) (pack pos e)) (i * entry_words + 1) (pack at 0)) (i * entry_words + 2) d → Whole text W D (i + 1) at words dir2
       tail_whole dir2 f q =
           let k : Fitting W D i at 0 = fitting W D i at 0 f in
           let m : ReadFull W D (said W D text) (pieces text) (c.fs ++ ((e, d, []) ∷ [])) done (i + 1) (pos + e) (at + 0) = full_more read e d [] done tail_item f in
@@ -150,13 +150,12 @@ module _ (text : List ℕ) (W D : ℕ) where
       block_room q p h =
           record {
             is = decide (room_of W D i at n) (pos + e) q p (said W D text) h
-                (λ r. full_no_words read e d g.ws (blocks head_at block_at d2 (drop (pos + e) text)) block_item (rw (← g.many) r))
-                (λ r. full_no_entry read e d g.ws (blocks head_at block_at d2 (drop (pos + e) text)) block_item (rw (← g.many) r));
+                (λ n r. full_no_room read e d g.ws (blocks head_at block_at d2 (drop (pos + e) text)) n block_item (rw (← g.many) r));
             long_words = g.within.long ∙ c.long_words;
             long_dir = c.long_dir;
           }
 
-      pub block_come : (dir2 : List ℕ) → room_of W D i at n ≡ Fits → dir2 ≡ set (set (set dir (i * entry_words) (pack pos e)) (i * entry_words + 1) (pack at n)) (i * entry_words + 2) d → Come text W D (i + 1) (pos + e) (at + n) d2 words dir2
+      pub block_come : (dir2 : List ℕ) → room_of W D i at n ≡ Ok tt → dir2 ≡ set (set (set dir (i * entry_words) (pack pos e)) (i * entry_words + 1) (pack at n)) (i * entry_words + 2) d → Come text W D (i + 1) (pos + e) (at + n) d2 words dir2
       block_come dir2 f q =
           let k : Fitting W D i at n = fitting W D i at n f in
           let m : ReadFull W D (said W D text) (pieces text) (c.fs ++ ((e, d, g.ws) ∷ [])) (blocks head_at block_at d2 (drop (pos + e) text)) (i + 1) (pos + e) (at + length g.ws) =
@@ -210,5 +209,5 @@ accepted W D text i at words dir words2 dir2 h g ew ed =
 pub come_own : (text : List ℕ) (W D i pos at d : ℕ) (words dir : List ℕ) → Come text W D i pos at d words dir → Come text (length words) (length dir) i pos at d words dir
 come_own text W D i pos at d words dir c = rw (c.long_words, c.long_dir) c
 
-pub ended_as : (text : List ℕ) (W W2 D D2 : ℕ) (words dir : List ℕ) (r : Written) → W2 ≡ W → D2 ≡ D → Ended text W2 D2 words dir r → Ended text W D words dir r
+pub ended_as : (text : List ℕ) (W W2 D D2 : ℕ) (words dir : List ℕ) (r : Result Written Refusal) → W2 ≡ W → D2 ≡ D → Ended text W2 D2 words dir r → Ended text W D words dir r
 ended_as text W W2 D D2 words dir r e f h = rw (← e, ← f) h

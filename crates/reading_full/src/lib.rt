@@ -1,22 +1,38 @@
 // The full reading, piece by piece: each is written where it stays.
 #![tactic(auto)]
 
-ghost use Rattle.std.specs.Prelude.{◌≤◌, length};
-ghost use Rattle.records.specs.Limits.{text_limit};
-ghost use Rattle.reading_full.specs.Full.{Come, Ended};
+ghost use Rattle.std.specs.Prelude.{◌+◌, ◌≤◌, ◌<◌, length};
+ghost use Rattle.records.specs.Limits.{half_limit, text_limit};
+ghost use Rattle.reading_full.specs.Full.{Come, Ended, Entered};
 
 use piece_block::block_in;
 use piece_directory::arrays::put_entry;
 use piece_directory::pieces::{Piece, Size, Spot};
 use piece_head::head_in;
 use piece_room::{Lent, ask};
+use records::Refusal;
 use text_whole::Verdict;
 
-// All pieces, their number and that of their words; or a refusal, its number and its place.
+// All pieces: their number and that of their words.
 #[derive(Clone, Copy)]
-pub enum Written {
-    All(usize, usize),
-    Refused(u64, u64),
+pub struct Written {
+    pub entries: usize,
+    pub words: usize,
+}
+
+// Questions 20 and 21 of the piece that was read there, and its entry; so many words are lent.
+fn enter(directory: &mut [u64], words: usize, spot: Spot, size: Size) -> Verdict
+    requires in_text { spot.pos + size.bytes ≤ text_limit }
+    requires word { spot.word < half_limit }
+    ensures { Entered words spot size directory.old directory.new result }
+{
+    let lent = Lent {
+        words,
+        directory: directory.len(),
+    };
+    ask(lent, spot, size)?;
+    put_entry(directory, spot, size);
+    Ok(())
 }
 
 // The blocks and the tail, behind the head: the first of them stands there.
@@ -25,46 +41,32 @@ fn read_blocks(
     words: &mut [u64],
     directory: &mut [u64],
     first: Spot,
-) -> Written
+) -> Result<Written, Refusal>
     requires text_len_bound { length text.now ≤ text_limit }
     requires come { Come text.now (length words.old) (length directory.old) first.number first.pos first.word first.counter words.old directory.old }
     ensures { Ended text.now (length words.old) (length directory.old) words.new directory.new result }
 {
     let to = words.len();
-    let lent = Lent {
-        words: to,
-        directory: directory.len(),
-    };
-    let mut number = first.number;
-    let mut pos = first.pos;
-    let mut word = first.word;
-    let mut counter = first.counter;
+    let mut spot = first;
     loop {
-        let spot = Spot {
-            number,
-            pos,
-            word,
-            counter,
-        };
         match block_in(text, words, spot, to) {
-            Piece::Refused(q, p) => return Written::Refused(q, pos as u64 + p),
-            Piece::Tail(bytes) => match ask(lent, spot, Size { bytes, words: 0 }) {
-                Verdict::Refused(q, p) => return Written::Refused(q, p),
-                Verdict::Fine => {
-                    put_entry(directory, spot, Size { bytes, words: 0 });
-                    return Written::All(number + 1, word);
-                }
-            },
-            Piece::Read(bytes, n, behind) => match ask(lent, spot, Size { bytes, words: n }) {
-                Verdict::Refused(q, p) => return Written::Refused(q, p),
-                Verdict::Fine => {
-                    put_entry(directory, spot, Size { bytes, words: n });
-                    number += 1;
-                    pos += bytes;
-                    word += n;
-                    counter = behind;
-                }
-            },
+            Err(r) => {
+                return Err(Refusal {
+                    question: r.question,
+                    place: spot.pos + r.place,
+                });
+            }
+            Ok(Piece::Tail(bytes)) => {
+                enter(directory, to, spot, Size { bytes, words: 0 })?;
+                return Ok(Written {
+                    entries: spot.number + 1,
+                    words: spot.word,
+                });
+            }
+            Ok(Piece::Read(size, counter)) => {
+                enter(directory, to, spot, size)?;
+                spot = spot.behind(size, counter);
+            }
         }
     }
 }
@@ -74,36 +76,22 @@ pub fn read_pieces(
     text: &[u8],
     words: &mut [u64],
     directory: &mut [u64],
-) -> Written
+) -> Result<Written, Refusal>
     requires text_len_bound { length text.now ≤ text_limit }
     ensures { Ended text.now (length words.old) (length directory.old) words.new directory.new result }
 {
     let to = words.len();
-    let lent = Lent {
-        words: to,
-        directory: directory.len(),
-    };
     let start = Spot {
         number: 0,
         pos: 0,
         word: 0,
         counter: 0,
     };
-    match head_in(text, words, 0, to) {
-        Piece::Refused(q, p) => Written::Refused(q, p),
-        Piece::Tail(_) => Written::Refused(0, 0),
-        Piece::Read(bytes, n, behind) => match ask(lent, start, Size { bytes, words: n }) {
-            Verdict::Refused(q, p) => Written::Refused(q, p),
-            Verdict::Fine => {
-                put_entry(directory, start, Size { bytes, words: n });
-                let first = Spot {
-                    number: 1,
-                    pos: bytes,
-                    word: n,
-                    counter: behind,
-                };
-                read_blocks(text, words, directory, first)
-            }
-        },
+    match head_in(text, words, 0, to)? {
+        Piece::Read(size, counter) => {
+            enter(directory, to, start, size)?;
+            read_blocks(text, words, directory, start.behind(size, counter))
+        }
+        Piece::Tail(_) => unreachable!(),
     }
 }

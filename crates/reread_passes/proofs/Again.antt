@@ -13,14 +13,13 @@ use native.Mathlib.Omega.{arith}
 use lib.Dec.{ltb}
 use lib.ListN.{length, take, drop, length-append, length-drop, drop_of_length-le}
 use borrow.Author.Tests.{lt-ltb, le-ltb}
-use Rattle.records.specs.Questions.{q_words, q_entries}
 use Rattle.records.specs.Limits.{entry_words}
 use Rattle.records.specs.Pieces.{HeadRead, head, bad_head, BlockRead, block, tail, bad_block, Run, done, stop, item, map_run, Source, fresh, size, before, Old, old_sizes, old_words, first_counter, Verdict, refused, judge, joins, again_in, again, behind_front}
 use Rattle.theorem_edits.specs.Law.{Grammar}
 use Rattle.piece_room.specs.Rooms.{room_of, after_room}
 use Rattle.piece_directory.specs.Olds.{olds_of, Chained}
 use Rattle.reread_kept.specs.Place.{Taken, read_then, read_size, read_words, rest_left, Settled}
-use Rattle.piece_room.specs.declared.Room.TheVariants.{Fits, Words, Entry}
+use Rattle.std.specs.Prelude.{Ok, Err}
 use Rattle.piece_directory.proofs.Links.{olds_length, words_split, no_more}
 use Rattle.piece_room.proofs.Judge.{judge_item}
 use Rattle.reread_kept.proofs.Place.{read_snoc, size_snoc, words_snoc}
@@ -109,7 +108,7 @@ module _ {W D : ℕ} {v : Verdict} {rest : Run Source} {k k₁ k₂ : ℕ} {fs :
   turn e d ws r2 h = g.verdict ∙ rw h (judge_item W D i at (length ws) pos e d (map_run size r2))
 
   -- a piece that has room
-  pub read_more : (e d : ℕ) (ws : List ℕ) (r2 : Run Source) → r ≡ item e d (fresh ws) r2 → room_of W D i at (length ws) ≡ Fits
+  pub read_more : (e d : ℕ) (ws : List ℕ) (r2 : Run Source) → r ≡ item e d (fresh ws) r2 → room_of W D i at (length ws) ≡ Ok tt
       → Read W D v rest k k₁ k₂ (fs ++ ((e, d, ws) ∷ [])) r2 (i + 1) (pos + e) (at + length ws)
   unfolding after_room
   read_more e d ws r2 h f =
@@ -122,13 +121,9 @@ module _ {W D : ℕ} {v : Verdict} {rest : Run Source} {k k₁ k₂ : ℕ} {fs :
       }
 
   -- one that has not
-  pub read_no_words : (e d : ℕ) (ws : List ℕ) (r2 : Run Source) → r ≡ item e d (fresh ws) r2 → room_of W D i at (length ws) ≡ Words → v ≡ refused q_words (pos + e)
+  pub read_no_room : (e d : ℕ) (ws : List ℕ) (r2 : Run Source) (q : ℕ) → r ≡ item e d (fresh ws) r2 → room_of W D i at (length ws) ≡ Err q → v ≡ refused q (pos + e)
   unfolding after_room
-  read_no_words e d ws r2 h f = turn e d ws r2 h ∙ rw f
-
-  pub read_no_entry : (e d : ℕ) (ws : List ℕ) (r2 : Run Source) → r ≡ item e d (fresh ws) r2 → room_of W D i at (length ws) ≡ Entry → v ≡ refused q_entries (pos + e)
-  unfolding after_room
-  read_no_entry e d ws r2 h f = turn e d ws r2 h ∙ rw f
+  read_no_room e d ws r2 q h f = turn e d ws r2 h ∙ rw f
 
   -- a refusal of the reader, at p from the piece's start
   pub read_refused : (q p : ℕ) → r ≡ stop q p → v ≡ refused q (pos + p)

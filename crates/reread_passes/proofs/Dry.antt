@@ -19,43 +19,44 @@ use Rattle.piece_directory.specs.Olds.{olds_of, begins, Passed, JoinsAt, JoinsNo
 use Rattle.reread_kept.specs.Place.{read_then, read_size, read_words, Settled}
 use Rattle.piece_directory.specs.declared.pieces.Piece.{Piece}
 use Rattle.piece_directory.specs.declared.pieces.Piece.TheVariants as pieces
-use Rattle.piece_room.specs.declared.Room.TheVariants.{Fits}
+use Rattle.std.specs.Prelude.{Result, Ok, Err}
+use Rattle.records.specs.declared.Refusal.{Refusal}
 use Rattle.piece_directory.proofs.Links.{olds_length, words_split, no_more}
 use Rattle.piece_room.proofs.Judge.{Fitting, fitting, kept_room}
 use Rattle.reread_older.proofs.Find.{passed_first, passed_later, kept_size_lem}
 use Rattle.reread_kept.proofs.Front.{front_count, front_size}
-use Rattle.reread_passes.proofs.Again.{Read, read_more, read_no_words, read_no_entry, read_refused, read_kept, read_all, again_joined, again_block, again_tail, again_bad, behind_joined, behind_head, behind_bad, behind_some, settled_all}
+use Rattle.reread_passes.proofs.Again.{Read, read_more, read_no_room, read_refused, read_kept, read_all, again_joined, again_block, again_tail, again_bad, behind_joined, behind_head, behind_bad, behind_some, settled_all}
 use Rattle.piece_head.specs.Part.{HeadIn, HeadDry}
 use Rattle.piece_block.specs.Part.{BlockIn, BlockDry}
 use Rattle.reread_passes.specs.Numbered.{Takes, Closes, Stops, PieceDry, PieceIn}
-use Rattle.reread_passes.specs.First.{kept, kept_size, kept_words, kept_counter, behind, said, onward, Given, Dry, Took, Planned}
+use Rattle.reread_passes.specs.First.{kept, kept_size, kept_words, kept_counter, behind, said, onward, Given, Dry, Took, Planned, Follows}
 use Rattle.piece_room.proofs.Judge.{decide}
 use Rattle.theorem_edits.specs.Again.{laws}
 
 -- ---- a piece by its number
-pub head_first : (text : List ℕ) (i pos c : ℕ) (r : Piece) → i ≡ 0 → (i ≡ 0 → pos ≡ 0) → HeadDry text r → PieceDry text i pos c r
-head_first text zero pos c (pieces.Read e n d) z s h = record { ws = h.ws; is = h.is; many = h.many }
-head_first text zero pos c (pieces.Tail e) z s h = h
-head_first text zero pos c (pieces.Refused q p) z s h = (h.is, omega (arith, h.inside, s z))
+pub head_first : (text : List ℕ) (i pos c : ℕ) (r : Result Piece Refusal) → i ≡ 0 → (i ≡ 0 → pos ≡ 0) → HeadDry text r → PieceDry text i pos c r
+head_first text zero pos c (Ok (pieces.Read y d)) z s h = record { ws = h.ws; is = h.is; many = h.many }
+head_first text zero pos c (Ok (pieces.Tail e)) z s h = h
+head_first text zero pos c (Err y) z s h = (h.is, omega (arith, h.inside, s z))
 head_first text (suc i) pos c r z s h = absurd (omega arith)
 
-pub block_later : (text : List ℕ) (i pos c : ℕ) (r : Piece) → (i ≡ 0 → ⊥) → pos ≤ length text → BlockDry c (drop pos text) r → PieceDry text i pos c r
+pub block_later : (text : List ℕ) (i pos c : ℕ) (r : Result Piece Refusal) → (i ≡ 0 → ⊥) → pos ≤ length text → BlockDry c (drop pos text) r → PieceDry text i pos c r
 block_later text zero pos c r z s h = absurd (z refl)
-block_later text (suc i) pos c (pieces.Read e n d) z s h = record { ws = h.ws; is = h.is; many = h.many }
-block_later text (suc i) pos c (pieces.Tail e) z s h = h
-block_later text (suc i) pos c (pieces.Refused q p) z s h = (h.is, omega (arith, h.inside, length-drop pos text))
+block_later text (suc i) pos c (Ok (pieces.Read y d)) z s h = record { ws = h.ws; is = h.is; many = h.many }
+block_later text (suc i) pos c (Ok (pieces.Tail e)) z s h = h
+block_later text (suc i) pos c (Err y) z s h = (h.is, omega (arith, h.inside, length-drop pos text))
 
-pub head_first_in : (text : List ℕ) (i pos at c to : ℕ) (words words2 : List ℕ) (r : Piece) → i ≡ 0 → HeadIn text at to words words2 r → PieceIn text i pos at c to words words2 r
-head_first_in text zero pos at c to words words2 (pieces.Read e n d) z h = record { ws = h.ws; is = h.is; many = h.many; stands = h.stands; within = h.within }
-head_first_in text zero pos at c to words words2 (pieces.Tail e) z h = absurd h
-head_first_in text zero pos at c to words words2 (pieces.Refused q p) z h = (h.0.is, h.1)
+pub head_first_in : (text : List ℕ) (i pos at c to : ℕ) (words words2 : List ℕ) (r : Result Piece Refusal) → i ≡ 0 → HeadIn text at to words words2 r → PieceIn text i pos at c to words words2 r
+head_first_in text zero pos at c to words words2 (Ok (pieces.Read y d)) z h = record { ws = h.ws; is = h.is; many = h.many; stands = h.stands; within = h.within }
+head_first_in text zero pos at c to words words2 (Ok (pieces.Tail e)) z h = absurd h
+head_first_in text zero pos at c to words words2 (Err y) z h = (h.0.is, h.1)
 head_first_in text (suc i) pos at c to words words2 r z h = absurd (omega arith)
 
-pub block_later_in : (text : List ℕ) (i pos at c to : ℕ) (words words2 : List ℕ) (r : Piece) → (i ≡ 0 → ⊥) → BlockIn c (drop pos text) at to words words2 r → PieceIn text i pos at c to words words2 r
+pub block_later_in : (text : List ℕ) (i pos at c to : ℕ) (words words2 : List ℕ) (r : Result Piece Refusal) → (i ≡ 0 → ⊥) → BlockIn c (drop pos text) at to words words2 r → PieceIn text i pos at c to words words2 r
 block_later_in text zero pos at c to words words2 r z h = absurd (z refl)
-block_later_in text (suc i) pos at c to words words2 (pieces.Read e n d) z h = record { ws = h.ws; is = h.is; many = h.many; stands = h.stands; within = h.within }
-block_later_in text (suc i) pos at c to words words2 (pieces.Tail e) z h = h
-block_later_in text (suc i) pos at c to words words2 (pieces.Refused q p) z h = (h.0.is, h.1)
+block_later_in text (suc i) pos at c to words words2 (Ok (pieces.Read y d)) z h = record { ws = h.ws; is = h.is; many = h.many; stands = h.stands; within = h.within }
+block_later_in text (suc i) pos at c to words words2 (Ok (pieces.Tail e)) z h = h
+block_later_in text (suc i) pos at c to words words2 (Err y) z h = (h.0.is, h.1)
 
 module _ (older newer : List ℕ) (W n : ℕ) (dir : List ℕ) (g : Given older newer W n dir) where
   abbrev os : List Old
@@ -130,10 +131,9 @@ module _ (older newer : List ℕ) (W n : ℕ) (dir : List ℕ) (g : Given older 
       pub dry_tail_room : (q p : ℕ) → ((v : Verdict) → after_room (room_of W (length dir) i at 0) (pos + e) v ≡ refused q p) → said older newer W n dir ≡ refused q p
       dry_tail_room q p h =
           decide (room_of W (length dir) i at 0) (pos + e) q p (said older newer W n dir) h
-          (read_no_words (reads i pos at d j y) e d [] done (step_tail i pos d e t))
-          (read_no_entry (reads i pos at d j y) e d [] done (step_tail i pos d e t))
+          (λ n. read_no_room (reads i pos at d j y) e d [] done n (step_tail i pos d e t))
 
-      pub dry_tail : room_of W (length dir) i at 0 ≡ Fits → Planned older newer W n dir (i + 1) (pos + e) at n
+      pub dry_tail : room_of W (length dir) i at 0 ≡ Ok tt → Planned older newer W n dir (i + 1) (pos + e) at n
       unfolding map_run judge old_sizes old_words
       dry_tail h =
           let inside : n * entry_words ≤ length dir = g.chained.joined.inside in
@@ -170,17 +170,16 @@ module _ (older newer : List ℕ) (W n : ℕ) (dir : List ℕ) (g : Given older 
     took_room q p h =
         let s : (r : Run Source) × (onward older newer W n dir i pos d ≡ item e d (fresh k.ws) r) = step_some i pos d e d2 k.ws k.dry.start k.dry.begin k.is in
         decide (room_of W (length dir) i at m) (pos + e) q p (said older newer W n dir) h
-        (λ r. read_no_words it e d k.ws s.0 s.1 (rw (← k.many) r))
-        (λ r. read_no_entry it e d k.ws s.0 s.1 (rw (← k.many) r))
+        (λ n r. read_no_room it e d k.ws s.0 n s.1 (rw (← k.many) r))
 
     pub took_passed : Passed (olds_of n dir) j (length older - (length newer - (pos + e)))
     took_passed = passed_later (olds_of n dir) j (length older - (length newer - pos)) (length older - (length newer - (pos + e))) (omega (arith, took_inside)) k.dry.passed
 
-    module _ (h : room_of W (length dir) i at m ≡ Fits) where
+    module _ (h : room_of W (length dir) i at m ≡ Ok tt) where
       fits : Fitting W (length dir) i at m
       fits = fitting W (length dir) i at m h
 
-      room_ws : room_of W (length dir) i at (length k.ws) ≡ Fits
+      room_ws : room_of W (length dir) i at (length k.ws) ≡ Ok tt
       room_ws = rw (← k.many) h
 
       pub took_more : (f : ℕ) → JoinsNot (olds_of n dir) (common_end older newer) (length older) (length newer - (pos + e)) d2 f → Dry older newer W n dir (i + 1) (pos + e) (at + m) d2 f
@@ -331,3 +330,8 @@ module _ (older newer : List ℕ) (W n : ℕ) (dir : List ℕ) (g : Given older 
 pub falls : (len pos e i : ℕ) → pos + e ≤ len → (0 < i → 1 ≤ e) → len - (pos + e) + (1 - (i + 1)) < len - pos + (1 - i)
 falls len pos e zero h f = omega arith
 falls len pos e (suc i) h f = omega (arith, f (omega arith))
+
+-- the words of a piece that has room end within the lent ones
+pub follows_words : (older newer : List ℕ) (W n : ℕ) (dir : List ℕ) (i pos at d : ℕ) (r : Result ℕ ℕ) → Follows older newer W n dir i pos at d (Ok r) → at ≤ W
+follows_words older newer W n dir i pos at d (Ok j) h = omega (arith, h.settled.room.in_words)
+follows_words older newer W n dir i pos at d (Err j) h = h.in_words

@@ -1,16 +1,14 @@
 -- The first pass of a re-reading as the code has it. Nothing is written, so words and directory are as they stood.
 -- Assumes nothing.
-use Rattle.std.specs.Prelude.{◌≡◌, List, ℕ, zero, suc, ◌+◌, ◌-◌, ◌*◌, ◌≤◌, ◌<◌, length, take, drop}
+use Rattle.std.specs.Prelude.{◌≡◌, List, ℕ, zero, suc, ◌+◌, ◌-◌, ◌*◌, ◌≤◌, ◌<◌, length, take, drop, Result, Ok, Err}
 use Rattle.records.specs.Limits.{half_limit, text_limit, entry_words}
 use Rattle.records.specs.Pieces.{Run, map_run, Source, size, old_sizes, old_words, Verdict, refused, judge, common_end, again, behind_front, keeps, rest, judge_again}
 use Rattle.grammar.specs.Function.{head_at, block_at}
 use Rattle.piece_directory.specs.Olds.{olds_of, begins, Chained, Passed}
 use Rattle.reread_kept.specs.Place.{Taken, read_then, read_size, read_words, Settled}
 use Rattle.reread_passes.specs.Numbered.{Takes}
+use Rattle.records.specs.declared.Refusal.{Refusal}
 use Rattle.reread_passes.specs.declared.first.Plan.{Plan}
-use Rattle.reread_passes.specs.declared.first.Plan.TheVariants as plans
-use Rattle.reread_passes.specs.declared.first.Step.{Step}
-use Rattle.reread_passes.specs.declared.first.Step.TheVariants as steps
 
 -- both texts, how many words are lent, and the older directory's n entries
 module _ (older newer : List ℕ) (W n : ℕ) (dir : List ℕ) where
@@ -74,11 +72,11 @@ module _ (older newer : List ℕ) (W n : ℕ) (dir : List ℕ) where
     pub small : kept < i → word < half_limit
 
   -- What follows the pieces read up to number i, place pos, `word` and the counter d: one more, old ones, or a refusal.
-  abbrev pub Follows : (i pos word d : ℕ) → Step → Type 0
-  Follows i pos word d (steps.More j) = Dry i pos word d j
-  Follows i pos word d (steps.Keep j) = Planned i pos word j
-  Follows i pos word d (steps.Refused q p) = said ≡ refused q p
+  abbrev pub Follows : (i pos word d : ℕ) → Result (Result ℕ ℕ) Refusal → Type 0
+  Follows i pos word d (Ok (Err j)) = Dry i pos word d j
+  Follows i pos word d (Ok (Ok j)) = Planned i pos word j
+  Follows i pos word d (Err r) = said ≡ refused r.question r.place
 
-  abbrev pub Ends : Plan → Type 0
-  Ends (plans.Keep s j) = Planned s.number s.pos s.word j
-  Ends (plans.Refused q p) = said ≡ refused q p
+  abbrev pub Ends : Result Plan Refusal → Type 0
+  Ends (Ok p) = Planned p.behind.number p.behind.pos p.behind.word p.from
+  Ends (Err r) = said ≡ refused r.question r.place

@@ -7,8 +7,8 @@ ghost use Rattle.reread_passes.specs.First.{Given, Took, Follows, Ends};
 use crate::numbered::piece_dry;
 use piece_directory::pieces::{Older, Piece, Size, Spot};
 use piece_room::{Lent, ask, room_kept};
+use records::Refusal;
 use reread_older::{Edit, Found, join_old};
-use text_whole::Verdict;
 
 // What the pass goes by, beside texts and directory: the length of the texts' common end, how many words are lent, and how many entries.
 #[derive(Clone, Copy)]
@@ -18,22 +18,15 @@ pub struct Known {
     pub entries: usize,
 }
 
-// How the pass ends: what is read ends there, and the old pieces from that number on are kept behind it; or a refusal.
+// How the pass ends: what is read ends there, and the old pieces from that number on are kept behind it.
 #[derive(Clone, Copy)]
-pub enum Plan {
-    Keep(Spot, usize),
-    Refused(u64, u64),
+pub struct Plan {
+    pub behind: Spot,
+    pub from: usize,
 }
 
-// What follows a piece: more are read, and old starts are looked for from that piece on; or the old ones from that number on are kept.
-#[derive(Clone, Copy)]
-enum Step {
-    More(usize),
-    Keep(usize),
-    Refused(u64, u64),
-}
-
-// Behind the piece there, which takes so much, where the counter is `behind`. Old starts are looked for from piece `from` on.
+// What follows the piece there, which takes so much, where the counter behind it is `behind`: the old pieces from a number on are kept; or more are
+// read, and old starts are looked for from a number on, for this piece from `from` on.
 fn follow(
     older: &[u8],
     newer: &[u8],
@@ -43,7 +36,7 @@ fn follow(
     size: Size,
     behind: u64,
     from: usize,
-) -> Step
+) -> Result<Found, Refusal>
     requires end_value { known.end ≡ common_end older.now newer.now }
     requires given { Given older.now newer.now known.words known.entries directory.now }
     requires took { Took older.now newer.now known.words known.entries directory.now spot.number spot.pos spot.word spot.counter from size.bytes size.words behind }
@@ -62,24 +55,14 @@ fn follow(
         entries: known.entries,
         words: known.words,
     };
-    let end = spot.pos + size.bytes;
-    match ask(lent, spot, size) {
-        Verdict::Refused(q, p) => Step::Refused(q, p),
-        Verdict::Fine => match join_old(directory, known.entries, from, edit, end, behind) {
-            Found::Nothing(f) => Step::More(f),
-            Found::At(f) => {
-                let next = Spot {
-                    number: spot.number + 1,
-                    pos: end,
-                    word: spot.word + size.words,
-                    counter: behind,
-                };
-                match room_kept(directory, old, f, next) {
-                    Verdict::Refused(q, p) => Step::Refused(q, p),
-                    Verdict::Fine => Step::Keep(f),
-                }
-            }
-        },
+    ask(lent, spot, size)?;
+    let next = spot.behind(size, behind);
+    match join_old(directory, known.entries, from, edit, next.pos, behind) {
+        Err(f) => Ok(Err(f)),
+        Ok(f) => {
+            room_kept(directory, old, f, next)?;
+            Ok(Ok(f))
+        }
     }
 }
 
@@ -90,7 +73,7 @@ pub fn read_dry(
     directory: &[u64],
     known: Known,
     front: Spot,
-) -> Plan
+) -> Result<Plan, Refusal>
     requires end_value { known.end ≡ common_end older.now newer.now }
     requires given { Given older.now newer.now known.words known.entries directory.now }
     requires front_is { FrontIs (common older.now newer.now) (olds_of known.entries directory.now) front.number front.pos front.word front.counter }
@@ -101,64 +84,47 @@ pub fn read_dry(
         words: known.words,
         directory: directory.len(),
     };
-    let mut number = front.number;
-    let mut pos = front.pos;
-    let mut word = front.word;
-    let mut counter = front.counter;
-    let mut from: usize = 1;
-    if number == entries {
-        return Plan::Keep(front, entries);
+    if front.number == entries {
+        return Ok(Plan {
+            behind: front,
+            from: entries,
+        });
     }
+    let mut spot = front;
+    let mut from: usize = 1;
     loop {
-        let spot = Spot {
-            number,
-            pos,
-            word,
-            counter,
-        };
         match piece_dry(newer, spot) {
-            Piece::Refused(q, p) => return Plan::Refused(q, pos as u64 + p),
-            Piece::Tail(bytes) => match ask(lent, spot, Size { bytes, words: 0 }) {
-                Verdict::Refused(q, p) => return Plan::Refused(q, p),
-                Verdict::Fine => {
-                    // nothing stands behind the tail, so this counter numbers nothing
-                    let next = Spot {
-                        number: number + 1,
-                        pos: pos + bytes,
-                        word,
-                        counter,
-                    };
-                    return Plan::Keep(next, entries);
+            Err(r) => {
+                return Err(Refusal {
+                    question: r.question,
+                    place: spot.pos + r.place,
+                });
+            }
+            Ok(Piece::Tail(bytes)) => {
+                let size = Size { bytes, words: 0 };
+                ask(lent, spot, size)?;
+                // nothing stands behind the tail, so this counter numbers nothing
+                return Ok(Plan {
+                    behind: spot.behind(size, spot.counter),
+                    from: entries,
+                });
+            }
+            Ok(Piece::Read(size, counter)) => {
+                let found = follow(older, newer, directory, known, spot, size, counter, from)?;
+                let next = spot.behind(size, counter);
+                match found {
+                    Ok(f) => {
+                        return Ok(Plan {
+                            behind: next,
+                            from: f,
+                        });
+                    }
+                    Err(f) => {
+                        spot = next;
+                        from = f;
+                    }
                 }
-            },
-            Piece::Read(bytes, words, behind) => match follow(
-                older,
-                newer,
-                directory,
-                known,
-                spot,
-                Size { bytes, words },
-                behind,
-                from,
-            ) {
-                Step::Refused(q, p) => return Plan::Refused(q, p),
-                Step::Keep(f) => {
-                    let next = Spot {
-                        number: number + 1,
-                        pos: pos + bytes,
-                        word: word + words,
-                        counter: behind,
-                    };
-                    return Plan::Keep(next, f);
-                }
-                Step::More(f) => {
-                    number += 1;
-                    pos += bytes;
-                    word += words;
-                    counter = behind;
-                    from = f;
-                }
-            },
+            }
         }
     }
 }

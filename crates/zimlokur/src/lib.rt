@@ -11,7 +11,6 @@ ghost use Rattle.channel_spec.specs.Answers.{channel_rule};
 ghost use Rattle.zimlokur.specs.Report.{Reports, ReportsAgain, ReportsStep, ReportsPart, ReportsMap, ReportsChannel};
 
 use channel_spec::{Rule, Told};
-use reading::{Answer, Reread};
 
 // The full reading. Returns 0, or the number of the question that refuses; then both arrays are zero.
 pub fn zimlokur_parse_define(
@@ -24,15 +23,15 @@ pub fn zimlokur_parse_define(
     ensures { Reports (reading_of (length words.old) (length directory.old) text.now) result place.new entries.new words.new directory.new }
 {
     match reading::parse_define(text, words, directory) {
-        Answer::Accepted(n) => {
+        Ok(n) => {
             *place = 0;
             *entries = n as u64;
             0
         }
-        Answer::Refused(q, p) => {
-            *place = p;
+        Err(r) => {
+            *place = r.place as u64;
             *entries = 0;
-            q
+            r.question
         }
     }
 }
@@ -52,19 +51,19 @@ pub fn zimlokur_reparse_define(
     ensures { ReportsAgain (rereading_of words.old directory.old older_entries older.now newer.now) result place.new entries.new first.new read.new words.new directory.new }
 {
     match reading::reparse_define(older, newer, words, directory, older_entries as usize) {
-        Reread::Accepted(renewed) => {
+        Ok(renewed) => {
             *place = 0;
             *entries = renewed.entries as u64;
             *first = renewed.first as u64;
             *read = renewed.read as u64;
             0
         }
-        Reread::Refused(q, p) => {
-            *place = p;
+        Err(r) => {
+            *place = r.place as u64;
             *entries = 0;
             *first = 0;
             *read = 0;
-            q
+            r.question
         }
     }
 }
@@ -105,11 +104,7 @@ pub fn zimlokur_child(words: &[u64], at: u64, to: &mut u64) -> u64
 pub fn zimlokur_next(words: &[u64], at: u64, end: u64, to: &mut u64) -> u64
     ensures { ReportsStep (next_of words.now at end) at result to.new }
 {
-    report_step(
-        record_steps::next(words, at as usize, end as usize),
-        at,
-        to,
-    )
+    report_step(record_steps::next(words, at as usize, end as usize), at, to)
 }
 
 // The text of a name. Returns 1 with the part's start and length in the piece, or 0 with both 0.

@@ -1,11 +1,11 @@
 -- Each form of the answer is printed as the reading that it says.
-use Rattle.pieces.proofs.ShowLaws.{shown_accepted, shown_refused}
+use Rattle.pieces_listing.specs.Lines.{printed_of}
 use Rattle.pieces.proofs.show.Goals as goal
 
-pub returns-in-Accepted : goal.returns-in-Accepted
-returns-in-Accepted c =
-    shown_accepted c.args.text.now _ _ c.parse_define.ensures c.in-Accepted.is c.list.ensures
+pub returns-in-Ok : goal.returns-in-Ok
+unfolding printed_of
+returns-in-Ok c = rw (← c.in-Ok.ensures) c.list.ensures
 
-pub returns-in-Refused : goal.returns-in-Refused
-returns-in-Refused c =
-    shown_refused c.args.text.now _ _ c.parse_define.ensures c.in-Refused.is c.refusal.ensures
+pub returns-in-Err : goal.returns-in-Err
+unfolding printed_of
+returns-in-Err c = rw (← c.in-Err.ensures) c.refusal.ensures

@@ -1,10 +1,8 @@
 -- The first pass decides the answer and writes nothing; then the move and the second pass leave what the definition says, and the rest is cleared.
-use mathlib.Core.Path.{◌∙◌, subst}
 use native.Mathlib.Omega.{arith}
-use lib.ListN.{length}
 use Rattle.piece_directory.specs.Olds.{olds_of}
 use Rattle.theorem_refusals.specs.Common.{common_le_newer}
-use Rattle.reread_passes.specs.First.{Ends}
+use Rattle.std.proofs.lemmas.Result.{err_from_is_err_and}
 use Rattle.reading.proofs.Settle.{front_common, again_refused, behind_in, k_in, ends_in, entries_in, fit, again_left_by}
 use Rattle.reading.proofs.read_again.Goals as goal
 
@@ -22,7 +20,6 @@ kept_front-front-requires c =
 pub read_dry-requires : goal.read_dry-requires
 read_dry-requires c =
     record {
-      classes = c.classes-classes.ensures;
       end_value = c.common_end-c.ensures;
       given = c.requires.given;
       front_is = (front_common c.args.older.now c.args.newer.now c.common-a.result (olds_of c.args.entries c.args.directory.now) c.kept_front-front.result.number c.kept_front-front.result.pos c.kept_front-front.result.word c.kept_front-front.result.counter c.common-a.ensures c.kept_front-front.ensures);
@@ -33,34 +30,33 @@ keep_behind-end-requires c =
     record {
       joined = c.requires.given.chained.joined;
       from_le_entries = (
-        behind_in c.args.older.now c.args.newer.now c.args.words.now c.args.entries c.args.directory.now c.requires.given c.requires.newer_value c.kept_front-front.result.number c.kept_front-front.result.pos c.kept_front-front.result.word c.kept_front-front.result.counter (front_common c.args.older.now c.args.newer.now c.common-a.result (olds_of c.args.entries c.args.directory.now) c.kept_front-front.result.number c.kept_front-front.result.pos c.kept_front-front.result.word c.kept_front-front.result.counter c.common-a.ensures c.kept_front-front.ensures) c.in-Keep.behind.number c.in-Keep.behind.pos c.in-Keep.behind.word c.in-Keep.from
-            (subst (Ends c.args.older.now c.args.newer.now (length c.args.words.now) c.args.entries c.args.directory.now) c.in-Keep.is c.read_dry.ensures),
+        behind_in c.args.older.now c.args.newer.now c.args.words.now c.args.entries c.args.directory.now c.requires.given c.requires.newer_value c.kept_front-front.result.number c.kept_front-front.result.pos c.kept_front-front.result.word c.kept_front-front.result.counter (front_common c.args.older.now c.args.newer.now c.common-a.result (olds_of c.args.entries c.args.directory.now) c.kept_front-front.result.number c.kept_front-front.result.pos c.kept_front-front.result.word c.kept_front-front.result.counter c.common-a.ensures c.kept_front-front.ensures) c.in_ok-plan.plan.behind.number c.in_ok-plan.plan.behind.pos c.in_ok-plan.plan.behind.word c.in_ok-plan.plan.from
+            c.in_ok-plan.ensures,
         c.requires.given.chained.in_words,
-        ends_in c.args.older.now c.args.newer.now c.args.words.now c.args.entries c.args.directory.now c.requires.given c.requires.newer_value c.kept_front-front.result.number c.kept_front-front.result.pos c.kept_front-front.result.word c.kept_front-front.result.counter (front_common c.args.older.now c.args.newer.now c.common-a.result (olds_of c.args.entries c.args.directory.now) c.kept_front-front.result.number c.kept_front-front.result.pos c.kept_front-front.result.word c.kept_front-front.result.counter c.common-a.ensures c.kept_front-front.ensures) c.in-Keep.behind.number c.in-Keep.behind.pos c.in-Keep.behind.word c.in-Keep.from
-            (subst (Ends c.args.older.now c.args.newer.now (length c.args.words.now) c.args.entries c.args.directory.now) c.in-Keep.is c.read_dry.ensures),
+        ends_in c.args.older.now c.args.newer.now c.args.words.now c.args.entries c.args.directory.now c.requires.given c.requires.newer_value c.kept_front-front.result.number c.kept_front-front.result.pos c.kept_front-front.result.word c.kept_front-front.result.counter (front_common c.args.older.now c.args.newer.now c.common-a.result (olds_of c.args.entries c.args.directory.now) c.kept_front-front.result.number c.kept_front-front.result.pos c.kept_front-front.result.word c.kept_front-front.result.counter c.common-a.ensures c.kept_front-front.ensures) c.in_ok-plan.plan.behind.number c.in_ok-plan.plan.behind.pos c.in_ok-plan.plan.behind.word c.in_ok-plan.plan.from
+            c.in_ok-plan.ensures,
       );
-      room_for = (subst (Ends c.args.older.now c.args.newer.now (length c.args.words.now) c.args.entries c.args.directory.now) c.in-Keep.is c.read_dry.ensures).settled.room;
+      room_for = c.in_ok-plan.ensures.settled.room;
     }
 
 pub write-requires : goal.write-requires
 write-requires c =
     record {
-      classes = c.classes-classes.ensures;
       newer_len_bound = c.requires.given.small;
-      fit = fit c.args.older.now c.args.newer.now c.args.words.now c.args.entries c.args.directory.now c.requires.given c.requires.newer_value c.kept_front-front.result.number c.kept_front-front.result.pos c.kept_front-front.result.word c.kept_front-front.result.counter (front_common c.args.older.now c.args.newer.now c.common-a.result (olds_of c.args.entries c.args.directory.now) c.kept_front-front.result.number c.kept_front-front.result.pos c.kept_front-front.result.word c.kept_front-front.result.counter c.common-a.ensures c.kept_front-front.ensures) c.in-Keep.behind.number c.in-Keep.behind.pos c.in-Keep.behind.word c.in-Keep.from (subst (Ends c.args.older.now c.args.newer.now (length c.args.words.now) c.args.entries c.args.directory.now) c.in-Keep.is c.read_dry.ensures) c.keep_behind-end.result c.keep_behind-end.new.words c.keep_behind-end.new.directory c.keep_behind-end.ensures;
+      fit = fit c.args.older.now c.args.newer.now c.args.words.now c.args.entries c.args.directory.now c.requires.given c.requires.newer_value c.kept_front-front.result.number c.kept_front-front.result.pos c.kept_front-front.result.word c.kept_front-front.result.counter (front_common c.args.older.now c.args.newer.now c.common-a.result (olds_of c.args.entries c.args.directory.now) c.kept_front-front.result.number c.kept_front-front.result.pos c.kept_front-front.result.word c.kept_front-front.result.counter c.common-a.ensures c.kept_front-front.ensures) c.in_ok-plan.plan.behind.number c.in_ok-plan.plan.behind.pos c.in_ok-plan.plan.behind.word c.in_ok-plan.plan.from c.in_ok-plan.ensures c.keep_behind-end.result c.keep_behind-end.new.words c.keep_behind-end.new.directory c.keep_behind-end.ensures;
     }
 
 pub overflow_sub-count : goal.overflow_sub-count
 overflow_sub-count c =
-    behind_in c.args.older.now c.args.newer.now c.args.words.now c.args.entries c.args.directory.now c.requires.given c.requires.newer_value c.kept_front-front.result.number c.kept_front-front.result.pos c.kept_front-front.result.word c.kept_front-front.result.counter (front_common c.args.older.now c.args.newer.now c.common-a.result (olds_of c.args.entries c.args.directory.now) c.kept_front-front.result.number c.kept_front-front.result.pos c.kept_front-front.result.word c.kept_front-front.result.counter c.common-a.ensures c.kept_front-front.ensures) c.in-Keep.behind.number c.in-Keep.behind.pos c.in-Keep.behind.word c.in-Keep.from
-    (subst (Ends c.args.older.now c.args.newer.now (length c.args.words.now) c.args.entries c.args.directory.now) c.in-Keep.is c.read_dry.ensures)
+    behind_in c.args.older.now c.args.newer.now c.args.words.now c.args.entries c.args.directory.now c.requires.given c.requires.newer_value c.kept_front-front.result.number c.kept_front-front.result.pos c.kept_front-front.result.word c.kept_front-front.result.counter (front_common c.args.older.now c.args.newer.now c.common-a.result (olds_of c.args.entries c.args.directory.now) c.kept_front-front.result.number c.kept_front-front.result.pos c.kept_front-front.result.word c.kept_front-front.result.counter c.common-a.ensures c.kept_front-front.ensures) c.in_ok-plan.plan.behind.number c.in_ok-plan.plan.behind.pos c.in_ok-plan.plan.behind.word c.in_ok-plan.plan.from
+    c.in_ok-plan.ensures
 
 pub overflow_add-count : goal.overflow_add-count
 overflow_add-count c =
     omega (
       arith,
-      entries_in c.args.older.now c.args.newer.now c.args.words.now c.args.entries c.args.directory.now c.requires.given c.requires.newer_value c.kept_front-front.result.number c.kept_front-front.result.pos c.kept_front-front.result.word c.kept_front-front.result.counter (front_common c.args.older.now c.args.newer.now c.common-a.result (olds_of c.args.entries c.args.directory.now) c.kept_front-front.result.number c.kept_front-front.result.pos c.kept_front-front.result.word c.kept_front-front.result.counter c.common-a.ensures c.kept_front-front.ensures) c.in-Keep.behind.number c.in-Keep.behind.pos c.in-Keep.behind.word c.in-Keep.from
-          (subst (Ends c.args.older.now c.args.newer.now (length c.args.words.now) c.args.entries c.args.directory.now) c.in-Keep.is c.read_dry.ensures),
+      entries_in c.args.older.now c.args.newer.now c.args.words.now c.args.entries c.args.directory.now c.requires.given c.requires.newer_value c.kept_front-front.result.number c.kept_front-front.result.pos c.kept_front-front.result.word c.kept_front-front.result.counter (front_common c.args.older.now c.args.newer.now c.common-a.result (olds_of c.args.entries c.args.directory.now) c.kept_front-front.result.number c.kept_front-front.result.pos c.kept_front-front.result.word c.kept_front-front.result.counter c.common-a.ensures c.kept_front-front.ensures) c.in_ok-plan.plan.behind.number c.in_ok-plan.plan.behind.pos c.in_ok-plan.plan.behind.word c.in_ok-plan.plan.from
+          c.in_ok-plan.ensures,
       c.well_formed.1.1.1.0,
     )
 
@@ -68,21 +64,22 @@ pub overflow_mul-count : goal.overflow_mul-count
 overflow_mul-count c =
     omega (
       arith,
-      entries_in c.args.older.now c.args.newer.now c.args.words.now c.args.entries c.args.directory.now c.requires.given c.requires.newer_value c.kept_front-front.result.number c.kept_front-front.result.pos c.kept_front-front.result.word c.kept_front-front.result.counter (front_common c.args.older.now c.args.newer.now c.common-a.result (olds_of c.args.entries c.args.directory.now) c.kept_front-front.result.number c.kept_front-front.result.pos c.kept_front-front.result.word c.kept_front-front.result.counter c.common-a.ensures c.kept_front-front.ensures) c.in-Keep.behind.number c.in-Keep.behind.pos c.in-Keep.behind.word c.in-Keep.from
-          (subst (Ends c.args.older.now c.args.newer.now (length c.args.words.now) c.args.entries c.args.directory.now) c.in-Keep.is c.read_dry.ensures),
+      entries_in c.args.older.now c.args.newer.now c.args.words.now c.args.entries c.args.directory.now c.requires.given c.requires.newer_value c.kept_front-front.result.number c.kept_front-front.result.pos c.kept_front-front.result.word c.kept_front-front.result.counter (front_common c.args.older.now c.args.newer.now c.common-a.result (olds_of c.args.entries c.args.directory.now) c.kept_front-front.result.number c.kept_front-front.result.pos c.kept_front-front.result.word c.kept_front-front.result.counter c.common-a.ensures c.kept_front-front.ensures) c.in_ok-plan.plan.behind.number c.in_ok-plan.plan.behind.pos c.in_ok-plan.plan.behind.word c.in_ok-plan.plan.from
+          c.in_ok-plan.ensures,
       c.well_formed.1.1.1.0,
     )
 
 pub overflow_sub-result : goal.overflow_sub-result
 overflow_sub-result c =
-    k_in c.args.older.now c.args.newer.now c.args.words.now c.args.entries c.args.directory.now c.requires.given c.requires.newer_value c.kept_front-front.result.number c.kept_front-front.result.pos c.kept_front-front.result.word c.kept_front-front.result.counter (front_common c.args.older.now c.args.newer.now c.common-a.result (olds_of c.args.entries c.args.directory.now) c.kept_front-front.result.number c.kept_front-front.result.pos c.kept_front-front.result.word c.kept_front-front.result.counter c.common-a.ensures c.kept_front-front.ensures) c.in-Keep.behind.number c.in-Keep.behind.pos c.in-Keep.behind.word c.in-Keep.from
-    (subst (Ends c.args.older.now c.args.newer.now (length c.args.words.now) c.args.entries c.args.directory.now) c.in-Keep.is c.read_dry.ensures)
+    k_in c.args.older.now c.args.newer.now c.args.words.now c.args.entries c.args.directory.now c.requires.given c.requires.newer_value c.kept_front-front.result.number c.kept_front-front.result.pos c.kept_front-front.result.word c.kept_front-front.result.counter (front_common c.args.older.now c.args.newer.now c.common-a.result (olds_of c.args.entries c.args.directory.now) c.kept_front-front.result.number c.kept_front-front.result.pos c.kept_front-front.result.word c.kept_front-front.result.counter c.common-a.ensures c.kept_front-front.ensures) c.in_ok-plan.plan.behind.number c.in_ok-plan.plan.behind.pos c.in_ok-plan.plan.behind.word c.in_ok-plan.plan.from
+    c.in_ok-plan.ensures
 
-pub returns-in-Refused : goal.returns-in-Refused
-returns-in-Refused c =
-    c.refuse_again.ensures ∙ again_refused c.args.older.now c.args.newer.now c.args.words.now c.args.entries c.args.directory.now c.requires.given c.requires.newer_value c.in-Refused.q c.in-Refused.p
-    (subst (Ends c.args.older.now c.args.newer.now (length c.args.words.now) c.args.entries c.args.directory.now) c.in-Refused.is c.read_dry.ensures)
+pub returns-in_err-plan : goal.returns-in_err-plan
+returns-in_err-plan c =
+    let p = err_from_is_err_and c.from_residual.result c.from_residual.ensures.1 in
+    rw (p.1, p.2)
+    (again_refused c.args.older.now c.args.newer.now c.args.words.now c.args.entries c.args.directory.now c.requires.given c.requires.newer_value c.in_err-plan.field-0.0.question c.in_err-plan.field-0.0.place c.in_err-plan.ensures)
 
-pub returns-in-Keep : goal.returns-in-Keep
-returns-in-Keep c =
-    again_left_by c.args.older.now c.args.newer.now c.args.words.now c.args.entries c.args.directory.now c.requires.given c.requires.newer_value c.kept_front-front.result.number c.kept_front-front.result.pos c.kept_front-front.result.word c.kept_front-front.result.counter (front_common c.args.older.now c.args.newer.now c.common-a.result (olds_of c.args.entries c.args.directory.now) c.kept_front-front.result.number c.kept_front-front.result.pos c.kept_front-front.result.word c.kept_front-front.result.counter c.common-a.ensures c.kept_front-front.ensures) c.in-Keep.behind.number c.in-Keep.behind.pos c.in-Keep.behind.word c.in-Keep.from (subst (Ends c.args.older.now c.args.newer.now (length c.args.words.now) c.args.entries c.args.directory.now) c.in-Keep.is c.read_dry.ensures) c.keep_behind-end.result c.keep_behind-end.new.words c.keep_behind-end.new.directory c.keep_behind-end.ensures c.write.new.words c.write.new.directory c.clear.new.words c.clear-in-Keep.new.words c.write.ensures c.clear.ensures c.clear-in-Keep.ensures
+pub returns : goal.returns
+returns c =
+    again_left_by c.args.older.now c.args.newer.now c.args.words.now c.args.entries c.args.directory.now c.requires.given c.requires.newer_value c.kept_front-front.result.number c.kept_front-front.result.pos c.kept_front-front.result.word c.kept_front-front.result.counter (front_common c.args.older.now c.args.newer.now c.common-a.result (olds_of c.args.entries c.args.directory.now) c.kept_front-front.result.number c.kept_front-front.result.pos c.kept_front-front.result.word c.kept_front-front.result.counter c.common-a.ensures c.kept_front-front.ensures) c.in_ok-plan.plan.behind.number c.in_ok-plan.plan.behind.pos c.in_ok-plan.plan.behind.word c.in_ok-plan.plan.from c.in_ok-plan.ensures c.keep_behind-end.result c.keep_behind-end.new.words c.keep_behind-end.new.directory c.keep_behind-end.ensures c.write.new.words c.write.new.directory c.clear.new.words c.clear-2.new.words c.write.ensures c.clear.ensures c.clear-2.ensures

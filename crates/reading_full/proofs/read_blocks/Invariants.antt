@@ -4,8 +4,8 @@ use lib.ListN.{length}
 use Rattle.reading_full.specs.Full.{Come}
 use Rattle.reading_full.proofs.read_blocks.Given as goal
 
-abbrev pub invariant-loop-q : goal.invariant-loop-q
-invariant-loop-q l = Come l.text l.to l.lent.directory l.number l.pos l.word l.counter l.words l.directory
+abbrev pub invariant-loop-r : goal.invariant-loop-r
+invariant-loop-r l = Come l.text l.to (length l.fn.directory) l.spot.number l.spot.pos l.spot.word l.spot.counter l.words l.directory
 
-abbrev pub decreases-loop-q : goal.decreases-loop-q
-decreases-loop-q l = length l.text - l.pos
+abbrev pub decreases-loop-r : goal.decreases-loop-r
+decreases-loop-r l = length l.text - l.spot.pos

@@ -1,63 +1,39 @@
 -- The head stands in front of both arrays, and then the loop's invariant holds.
-use mathlib.Core.Path.{refl, subst}
-use Prim.Native.Nat.{◌+◌}
+use mathlib.Core.Path.{refl}
 use native.Mathlib.Omega.{arith}
+use native.Mathlib.Nat.{zero-add}
 use lib.ListN.{length}
-use Rattle.piece_room.proofs.Judge.{fitting}
-use Rattle.piece_room.specs.Rooms.{Asked}
-use Rattle.piece_head.specs.Part.{HeadIn}
+use Rattle.std.proofs.lemmas.Result.{err_from_is_err_and}
 use Rattle.reading_full.proofs.Whole.{no_head, head_inside, head_room, head_come, come_own, ended_as}
 use Rattle.reading_full.proofs.read_pieces.Goals as goal
 
-pub ask-requires : goal.ask-requires
-ask-requires c =
-    omega
-    (arith, head_inside c.args.text.now (length c.args.words.now) (length c.args.directory.now) c.in-Read.bytes c.in-Read.n c.in-Read.behind c.args.words.now c.head_in.new.words c.args.directory.now (subst (HeadIn c.args.text.now 0 (length c.args.words.now) c.args.words.now c.head_in.new.words) c.in-Read.is c.head_in.ensures) refl refl, c.requires.text_len_bound)
+pub returns-in_err-size : goal.returns-in_err-size
+returns-in_err-size c =
+    let p = err_from_is_err_and c.from_residual.result c.from_residual.ensures.1 in
+    rw (p.1, p.2)
+    (no_head c.args.text.now (length c.args.words.now) (length c.args.directory.now) c.in_err-size.field-0.0.question c.in_err-size.field-0.0.place c.head_in.new.words c.args.directory.now c.in_err-size.ensures.0.is c.in_err-size.ensures.1 refl)
 
-pub put_entry-requires : goal.put_entry-requires
-put_entry-requires c =
-    record {
-      entry_words_in_bounds = omega (
-        arith,
-        (fitting (length c.args.words.now) (length c.args.directory.now) 0 0 c.in-Read.n
-            (subst (Asked (length c.args.words.now) (length c.args.directory.now) 0 0 c.in-Read.n (0 + c.in-Read.bytes)) c.in-Fine.is c.ask.ensures)).entry,
-      );
-      pos_lt_half_limit = (
-        omega arith,
-        omega
-            (arith, head_inside c.args.text.now (length c.args.words.now) (length c.args.directory.now) c.in-Read.bytes c.in-Read.n c.in-Read.behind c.args.words.now c.head_in.new.words c.args.directory.now (subst (HeadIn c.args.text.now 0 (length c.args.words.now) c.args.words.now c.head_in.new.words) c.in-Read.is c.head_in.ensures) refl refl, c.requires.text_len_bound),
-        omega arith,
-        omega (
-          arith,
-          (fitting (length c.args.words.now) (length c.args.directory.now) 0 0 c.in-Read.n
-              (subst (Asked (length c.args.words.now) (length c.args.directory.now) 0 0 c.in-Read.n (0 + c.in-Read.bytes)) c.in-Fine.is c.ask.ensures)).small,
-        ),
-      );
-    }
+pub enter-requires-clause-in_text : goal.enter-requires-clause-in_text
+enter-requires-clause-in_text c =
+    let g = rw c.in-Read.is at c.in_ok-size.ensures in
+    omega (arith, head_inside c.args.text.now (length c.args.words.now) (length c.args.directory.now) c.in-Read.size.bytes c.in-Read.size.words c.in-Read.counter c.args.words.now c.head_in.new.words c.args.directory.now g refl refl, c.requires.text_len_bound)
 
-pub read_blocks-requires : goal.read_blocks-requires
-read_blocks-requires c =
-    record {
-      classes = c.requires.classes;
-      text_len_bound = c.requires.text_len_bound;
-      come = come_own c.args.text.now (length c.args.words.now) (length c.args.directory.now) 1 c.in-Read.bytes c.in-Read.n c.in-Read.behind c.head_in.new.words c.put_entry.new.directory
-          (head_come c.args.text.now (length c.args.words.now) (length c.args.directory.now) c.in-Read.bytes c.in-Read.n c.in-Read.behind c.args.words.now c.head_in.new.words c.args.directory.now (subst (HeadIn c.args.text.now 0 (length c.args.words.now) c.args.words.now c.head_in.new.words) c.in-Read.is c.head_in.ensures) refl refl c.put_entry.new.directory (subst (Asked (length c.args.words.now) (length c.args.directory.now) 0 0 c.in-Read.n (0 + c.in-Read.bytes)) c.in-Fine.is c.ask.ensures) c.put_entry.ensures);
-    }
+pub returns-in_err-enter-in-Read : goal.returns-in_err-enter-in-Read
+returns-in_err-enter-in-Read c =
+    let g = rw c.in-Read.is at c.in_ok-size.ensures in
+    let p = err_from_is_err_and c.from_residual-in_err-enter-in-Read.result c.from_residual-in_err-enter-in-Read.ensures.1 in
+    rw (p.1, p.2, c.in_err-enter-in-Read.ensures.1)
+    (head_room c.args.text.now (length c.args.words.now) (length c.args.directory.now) c.in-Read.size.bytes c.in-Read.size.words c.in-Read.counter c.args.words.now c.head_in.new.words c.args.directory.now g refl refl c.in_err-enter-in-Read.field-0.0.question c.in_err-enter-in-Read.field-0.0.place c.in_err-enter-in-Read.ensures.0)
 
-pub returns-in-Refused : goal.returns-in-Refused
-returns-in-Refused c =
-    no_head c.args.text.now (length c.args.words.now) (length c.args.directory.now) c.in-Refused.q c.in-Refused.p c.head_in.new.words c.args.directory.now (subst (HeadIn c.args.text.now 0 (length c.args.words.now) c.args.words.now c.head_in.new.words) c.in-Refused.is c.head_in.ensures).0.is (subst (HeadIn c.args.text.now 0 (length c.args.words.now) c.args.words.now c.head_in.new.words) c.in-Refused.is c.head_in.ensures).1 refl
+pub read_blocks-requires-clause-come : goal.read_blocks-requires-clause-come
+read_blocks-requires-clause-come c =
+    let g = rw c.in-Read.is at c.in_ok-size.ensures in
+    let k = head_come c.args.text.now (length c.args.words.now) (length c.args.directory.now) c.in-Read.size.bytes c.in-Read.size.words c.in-Read.counter c.args.words.now c.head_in.new.words c.args.directory.now g refl refl c.enter.new.directory c.in_ok-enter-in-Read.ensures.0 c.in_ok-enter-in-Read.ensures.1 in
+    rw (c.behind.ensures.number, c.behind.ensures.pos, c.behind.ensures.word, c.behind.ensures.counter, zero-add c.in-Read.size.bytes, zero-add c.in-Read.size.words)
+    (come_own c.args.text.now (length c.args.words.now) (length c.args.directory.now) 1 c.in-Read.size.bytes c.in-Read.size.words c.in-Read.counter c.head_in.new.words c.enter.new.directory k)
 
-pub returns-in-Tail : goal.returns-in-Tail
-returns-in-Tail c =
-    absurd
-    (subst (HeadIn c.args.text.now 0 (length c.args.words.now) c.args.words.now c.head_in.new.words) c.in-Tail.is c.head_in.ensures)
-
-pub returns-in-Refused-ask : goal.returns-in-Refused-ask
-returns-in-Refused-ask c =
-    head_room c.args.text.now (length c.args.words.now) (length c.args.directory.now) c.in-Read.bytes c.in-Read.n c.in-Read.behind c.args.words.now c.head_in.new.words c.args.directory.now (subst (HeadIn c.args.text.now 0 (length c.args.words.now) c.args.words.now c.head_in.new.words) c.in-Read.is c.head_in.ensures) refl refl c.in-Refused-ask.q c.in-Refused-ask.p
-    (subst (Asked (length c.args.words.now) (length c.args.directory.now) 0 0 c.in-Read.n (0 + c.in-Read.bytes)) c.in-Refused-ask.is c.ask.ensures)
-
-pub returns-in-Fine : goal.returns-in-Fine
-returns-in-Fine c =
-    ended_as c.args.text.now (length c.args.words.now) (length c.head_in.new.words) (length c.args.directory.now) (length c.put_entry.new.directory) c.read_blocks.new.words c.read_blocks.new.directory c.read_blocks.result (head_come c.args.text.now (length c.args.words.now) (length c.args.directory.now) c.in-Read.bytes c.in-Read.n c.in-Read.behind c.args.words.now c.head_in.new.words c.args.directory.now (subst (HeadIn c.args.text.now 0 (length c.args.words.now) c.args.words.now c.head_in.new.words) c.in-Read.is c.head_in.ensures) refl refl c.put_entry.new.directory (subst (Asked (length c.args.words.now) (length c.args.directory.now) 0 0 c.in-Read.n (0 + c.in-Read.bytes)) c.in-Fine.is c.ask.ensures) c.put_entry.ensures).long_words (head_come c.args.text.now (length c.args.words.now) (length c.args.directory.now) c.in-Read.bytes c.in-Read.n c.in-Read.behind c.args.words.now c.head_in.new.words c.args.directory.now (subst (HeadIn c.args.text.now 0 (length c.args.words.now) c.args.words.now c.head_in.new.words) c.in-Read.is c.head_in.ensures) refl refl c.put_entry.new.directory (subst (Asked (length c.args.words.now) (length c.args.directory.now) 0 0 c.in-Read.n (0 + c.in-Read.bytes)) c.in-Fine.is c.ask.ensures) c.put_entry.ensures).long_dir c.read_blocks.ensures
+pub returns : goal.returns
+returns c =
+    let g = rw c.in-Read.is at c.in_ok-size.ensures in
+    let k = head_come c.args.text.now (length c.args.words.now) (length c.args.directory.now) c.in-Read.size.bytes c.in-Read.size.words c.in-Read.counter c.args.words.now c.head_in.new.words c.args.directory.now g refl refl c.enter.new.directory c.in_ok-enter-in-Read.ensures.0 c.in_ok-enter-in-Read.ensures.1 in
+    ended_as c.args.text.now (length c.args.words.now) (length c.head_in.new.words) (length c.args.directory.now) (length c.enter.new.directory) c.read_blocks.new.words c.read_blocks.new.directory c.read_blocks.result k.long_words k.long_dir c.read_blocks.ensures

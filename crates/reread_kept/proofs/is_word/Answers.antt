@@ -1,3 +1,4 @@
+-- Both tests agree at each byte; `||` makes one and then the other.
 use mathlib.Core.Path.{sym, ◌∙◌}
 use native.Mathlib.Omega.{arith}
 use Rattle.reread_kept.proofs.Word.{word_then, word_else}

@@ -1,3 +1,4 @@
+-- Where no byte exceeds 127 nothing is left to ask; else the first that does is question 2's place.
 use mathlib.Core.Path.{sym}
 use native.Mathlib.Nat.{zero-add, le_trans}
 use Rattle.records.specs.Questions.{q_ascii}

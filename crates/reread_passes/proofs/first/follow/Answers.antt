@@ -1,90 +1,61 @@
 -- The piece has room, so the verdict is that on what follows: old pieces that join, asked too, or more to be read.
-use mathlib.Core.Path.{sym, ap, ◌∙◌, subst}
-use Prim.Native.Nat.{ℕ, ◌+◌, ◌-◌}
 use native.Mathlib.Omega.{arith}
 use lib.ListN.{length}
+use Rattle.std.proofs.lemmas.Result.{err_from_is_err_and}
 use Rattle.theorem_refusals.specs.Common.{common_end_le}
 use Rattle.records.specs.Pieces.{refused}
-use Rattle.text_whole.specs.Verdicts.{verdict}
-use Rattle.reread_older.specs.Answers.{Joins}
-use Rattle.piece_directory.specs.Olds.{olds_of, JoinsAt, JoinsNot}
 use Rattle.piece_room.proofs.Judge.{fitting}
-use Rattle.piece_room.specs.Rooms.{Asked}
 use Rattle.reread_passes.proofs.Dry.{took_inside, took_passed, took_size, took_room, took_more, took_refused, took_keep}
 use Rattle.reread_passes.proofs.first.follow.Goals as goal
 
-pub overflow_add-end : goal.overflow_add-end
-overflow_add-end c =
-    omega
-    (arith, took_inside c.args.older.now c.args.newer.now c.args.known.words c.args.known.entries c.args.directory.now c.requires.given c.args.spot.number c.args.spot.pos c.args.spot.word c.args.spot.counter c.args.from c.args.size.bytes c.args.size.words c.args.behind c.requires.took, c.requires.given.small)
-
 pub ask-requires : goal.ask-requires
-ask-requires c =
-    omega
-    (arith, took_inside c.args.older.now c.args.newer.now c.args.known.words c.args.known.entries c.args.directory.now c.requires.given c.args.spot.number c.args.spot.pos c.args.spot.word c.args.spot.counter c.args.from c.args.size.bytes c.args.size.words c.args.behind c.requires.took, c.requires.given.small)
+ask-requires c = omega (arith, took_inside c.args.older.now c.args.newer.now c.args.known.words c.args.known.entries c.args.directory.now c.requires.given c.args.spot.number c.args.spot.pos c.args.spot.word c.args.spot.counter c.args.from c.args.size.bytes c.args.size.words c.args.behind c.requires.took, c.requires.given.small)
+
+pub returns-in_err-ask : goal.returns-in_err-ask
+returns-in_err-ask c =
+    let p = err_from_is_err_and c.from_residual.result c.from_residual.ensures.1 in
+    rw (p.1, p.2) (took_room c.args.older.now c.args.newer.now c.args.known.words c.args.known.entries c.args.directory.now c.requires.given c.args.spot.number c.args.spot.pos c.args.spot.word c.args.spot.counter c.args.from c.args.size.bytes c.args.size.words c.args.behind c.requires.took c.in_err-ask.field-0.0.question c.in_err-ask.field-0.0.place c.in_err-ask.ensures)
+
+pub behind-next-requires-clause-bytes : goal.behind-next-requires-clause-bytes
+behind-next-requires-clause-bytes c = omega (arith, took_inside c.args.older.now c.args.newer.now c.args.known.words c.args.known.entries c.args.directory.now c.requires.given c.args.spot.number c.args.spot.pos c.args.spot.word c.args.spot.counter c.args.from c.args.size.bytes c.args.size.words c.args.behind c.requires.took, c.requires.given.small)
+
+pub behind-next-requires-clause-words : goal.behind-next-requires-clause-words
+behind-next-requires-clause-words c =
+    let f = fitting c.args.known.words (length c.args.directory.now) c.args.spot.number c.args.spot.word c.args.size.words c.in_ok-ask.ensures in omega (arith, f.small)
+
+pub behind-next-requires-clause-numbers : goal.behind-next-requires-clause-numbers
+behind-next-requires-clause-numbers c =
+    let f = fitting c.args.known.words (length c.args.directory.now) c.args.spot.number c.args.spot.word c.args.size.words c.in_ok-ask.ensures in omega (arith, f.entry)
 
 pub join_old-requires : goal.join_old-requires
 join_old-requires c =
     record {
-      from_le_entries = (
-        c.requires.took.dry.from,
-        omega
-            (arith, common_end_le c.args.older.now c.args.newer.now, c.requires.end_value),
-        took_inside c.args.older.now c.args.newer.now c.args.known.words c.args.known.entries c.args.directory.now c.requires.given c.args.spot.number c.args.spot.pos c.args.spot.word c.args.spot.counter c.args.from c.args.size.bytes c.args.size.words c.args.behind c.requires.took,
-      );
+      from_le_entries = (c.requires.took.dry.from, omega (arith, common_end_le c.args.older.now c.args.newer.now, c.requires.end_value), omega (arith, took_inside c.args.older.now c.args.newer.now c.args.known.words c.args.known.entries c.args.directory.now c.requires.given c.args.spot.number c.args.spot.pos c.args.spot.word c.args.spot.counter c.args.from c.args.size.bytes c.args.size.words c.args.behind c.requires.took));
       joined = c.requires.given.chained.joined;
-      passed = took_passed c.args.older.now c.args.newer.now c.args.known.words c.args.known.entries c.args.directory.now c.requires.given c.args.spot.number c.args.spot.pos c.args.spot.word c.args.spot.counter c.args.from c.args.size.bytes c.args.size.words c.args.behind c.requires.took;
+      passed = rw c.behind-next.ensures.pos (took_passed c.args.older.now c.args.newer.now c.args.known.words c.args.known.entries c.args.directory.now c.requires.given c.args.spot.number c.args.spot.pos c.args.spot.word c.args.spot.counter c.args.from c.args.size.bytes c.args.size.words c.args.behind c.requires.took);
     }
-
-pub overflow_add-next-in-At : goal.overflow_add-next-in-At
-overflow_add-next-in-At c =
-    omega (
-      arith,
-      (fitting c.args.known.words (length c.args.directory.now) c.args.spot.number c.args.spot.word c.args.size.words (subst (Asked c.args.known.words (length c.args.directory.now) c.args.spot.number c.args.spot.word c.args.size.words
-          (c.args.spot.pos + c.args.size.bytes)) c.in-Fine.is c.ask.ensures)).small,
-    )
 
 pub room_kept-requires : goal.room_kept-requires
 room_kept-requires c =
+    let x = rw (c.requires.end_value, c.behind-next.ensures.pos) at c.in-Ok.ensures in
     record {
       entry_words_in_bounds = c.requires.given.chained.joined.inside;
-      directory_bound = omega (
-        arith,
-        took_size c.args.older.now c.args.newer.now c.args.known.words c.args.known.entries c.args.directory.now c.requires.given c.args.spot.number c.args.spot.pos c.args.spot.word c.args.spot.counter c.args.from c.args.size.bytes c.args.size.words c.args.behind c.requires.took (subst (Asked c.args.known.words (length c.args.directory.now) c.args.spot.number c.args.spot.word c.args.size.words
-            (c.args.spot.pos + c.args.size.bytes)) c.in-Fine.is c.ask.ensures) c.in-At.f
-            (subst (λ (x : ℕ). JoinsAt (olds_of c.args.known.entries c.args.directory.now) x (length c.args.older.now) (length c.args.newer.now - (c.args.spot.pos + c.args.size.bytes)) c.args.behind c.in-At.f) c.requires.end_value
-            (subst (Joins (olds_of c.args.known.entries c.args.directory.now) c.args.known.end (length c.args.older.now)
-            (length c.args.newer.now - (c.args.spot.pos + c.args.size.bytes)) c.args.behind) c.in-At.is c.join_old.ensures)),
-        took_inside c.args.older.now c.args.newer.now c.args.known.words c.args.known.entries c.args.directory.now c.requires.given c.args.spot.number c.args.spot.pos c.args.spot.word c.args.spot.counter c.args.from c.args.size.bytes c.args.size.words c.args.behind c.requires.took,
-        c.requires.given.small,
-      );
+      directory_bound = omega (arith, took_size c.args.older.now c.args.newer.now c.args.known.words c.args.known.entries c.args.directory.now c.requires.given c.args.spot.number c.args.spot.pos c.args.spot.word c.args.spot.counter c.args.from c.args.size.bytes c.args.size.words c.args.behind c.requires.took c.in_ok-ask.ensures c.in-Ok.f x, took_inside c.args.older.now c.args.newer.now c.args.known.words c.args.known.entries c.args.directory.now c.requires.given c.args.spot.number c.args.spot.pos c.args.spot.word c.args.spot.counter c.args.from c.args.size.bytes c.args.size.words c.args.behind c.requires.took, c.requires.given.small);
     }
 
-pub returns-in-Refused : goal.returns-in-Refused
-returns-in-Refused c =
-    took_room c.args.older.now c.args.newer.now c.args.known.words c.args.known.entries c.args.directory.now c.requires.given c.args.spot.number c.args.spot.pos c.args.spot.word c.args.spot.counter c.args.from c.args.size.bytes c.args.size.words c.args.behind c.requires.took c.in-Refused.q c.in-Refused.p
-    (subst (Asked c.args.known.words (length c.args.directory.now) c.args.spot.number c.args.spot.word c.args.size.words (c.args.spot.pos + c.args.size.bytes)) c.in-Refused.is c.ask.ensures)
+pub returns-in-Err : goal.returns-in-Err
+returns-in-Err c =
+    let x = rw (c.requires.end_value, c.behind-next.ensures.pos) at c.in-Err.ensures in
+    took_more c.args.older.now c.args.newer.now c.args.known.words c.args.known.entries c.args.directory.now c.requires.given c.args.spot.number c.args.spot.pos c.args.spot.word c.args.spot.counter c.args.from c.args.size.bytes c.args.size.words c.args.behind c.requires.took c.in_ok-ask.ensures c.in-Err.f x
 
-pub returns-in-Nothing : goal.returns-in-Nothing
-returns-in-Nothing c =
-    took_more c.args.older.now c.args.newer.now c.args.known.words c.args.known.entries c.args.directory.now c.requires.given c.args.spot.number c.args.spot.pos c.args.spot.word c.args.spot.counter c.args.from c.args.size.bytes c.args.size.words c.args.behind c.requires.took (subst (Asked c.args.known.words (length c.args.directory.now) c.args.spot.number c.args.spot.word c.args.size.words
-    (c.args.spot.pos + c.args.size.bytes)) c.in-Fine.is c.ask.ensures) c.in-Nothing.f
-    (subst (λ (x : ℕ). JoinsNot (olds_of c.args.known.entries c.args.directory.now) x (length c.args.older.now) (length c.args.newer.now - (c.args.spot.pos + c.args.size.bytes)) c.args.behind c.in-Nothing.f) c.requires.end_value
-    (subst (Joins (olds_of c.args.known.entries c.args.directory.now) c.args.known.end (length c.args.older.now)
-    (length c.args.newer.now - (c.args.spot.pos + c.args.size.bytes)) c.args.behind) c.in-Nothing.is c.join_old.ensures))
+pub returns-in_err-room_kept-in-Ok : goal.returns-in_err-room_kept-in-Ok
+returns-in_err-room_kept-in-Ok c =
+    let x = rw (c.requires.end_value, c.behind-next.ensures.pos) at c.in-Ok.ensures in
+    let p = err_from_is_err_and c.from_residual-in_err-room_kept-in-Ok.result c.from_residual-in_err-room_kept-in-Ok.ensures.1 in
+    rw (p.1, p.2)
+    (took_refused c.args.older.now c.args.newer.now c.args.known.words c.args.known.entries c.args.directory.now c.requires.given c.args.spot.number c.args.spot.pos c.args.spot.word c.args.spot.counter c.args.from c.args.size.bytes c.args.size.words c.args.behind c.requires.took c.in_ok-ask.ensures c.in-Ok.f x (refused c.in_err-room_kept-in-Ok.field-0.0.question c.in_err-room_kept-in-Ok.field-0.0.place) (rw (c.behind-next.ensures.number, c.behind-next.ensures.pos, c.behind-next.ensures.word) at c.in_err-room_kept-in-Ok.ensures))
 
-pub returns-in-Refused-room_kept : goal.returns-in-Refused-room_kept
-returns-in-Refused-room_kept c =
-    took_refused c.args.older.now c.args.newer.now c.args.known.words c.args.known.entries c.args.directory.now c.requires.given c.args.spot.number c.args.spot.pos c.args.spot.word c.args.spot.counter c.args.from c.args.size.bytes c.args.size.words c.args.behind c.requires.took (subst (Asked c.args.known.words (length c.args.directory.now) c.args.spot.number c.args.spot.word c.args.size.words
-    (c.args.spot.pos + c.args.size.bytes)) c.in-Fine.is c.ask.ensures) c.in-At.f (subst (λ (x : ℕ). JoinsAt (olds_of c.args.known.entries c.args.directory.now) x (length c.args.older.now) (length c.args.newer.now - (c.args.spot.pos + c.args.size.bytes)) c.args.behind c.in-At.f) c.requires.end_value
-    (subst (Joins (olds_of c.args.known.entries c.args.directory.now) c.args.known.end (length c.args.older.now)
-    (length c.args.newer.now - (c.args.spot.pos + c.args.size.bytes)) c.args.behind) c.in-At.is c.join_old.ensures)) (refused c.in-Refused-room_kept.q c.in-Refused-room_kept.p)
-    (sym (ap verdict c.in-Refused-room_kept.is) ∙ c.room_kept.ensures)
-
-pub returns-in-Fine-room_kept : goal.returns-in-Fine-room_kept
-returns-in-Fine-room_kept c =
-    took_keep c.args.older.now c.args.newer.now c.args.known.words c.args.known.entries c.args.directory.now c.requires.given c.args.spot.number c.args.spot.pos c.args.spot.word c.args.spot.counter c.args.from c.args.size.bytes c.args.size.words c.args.behind c.requires.took (subst (Asked c.args.known.words (length c.args.directory.now) c.args.spot.number c.args.spot.word c.args.size.words
-    (c.args.spot.pos + c.args.size.bytes)) c.in-Fine.is c.ask.ensures) c.in-At.f (subst (λ (x : ℕ). JoinsAt (olds_of c.args.known.entries c.args.directory.now) x (length c.args.older.now) (length c.args.newer.now - (c.args.spot.pos + c.args.size.bytes)) c.args.behind c.in-At.f) c.requires.end_value
-    (subst (Joins (olds_of c.args.known.entries c.args.directory.now) c.args.known.end (length c.args.older.now)
-    (length c.args.newer.now - (c.args.spot.pos + c.args.size.bytes)) c.args.behind) c.in-At.is c.join_old.ensures))
-    (sym (ap verdict c.in-Fine-room_kept.is) ∙ c.room_kept.ensures)
+pub returns-in_ok-room_kept-in-Ok : goal.returns-in_ok-room_kept-in-Ok
+returns-in_ok-room_kept-in-Ok c =
+    let x = rw (c.requires.end_value, c.behind-next.ensures.pos) at c.in-Ok.ensures in
+    took_keep c.args.older.now c.args.newer.now c.args.known.words c.args.known.entries c.args.directory.now c.requires.given c.args.spot.number c.args.spot.pos c.args.spot.word c.args.spot.counter c.args.from c.args.size.bytes c.args.size.words c.args.behind c.requires.took c.in_ok-ask.ensures c.in-Ok.f x (rw (c.behind-next.ensures.number, c.behind-next.ensures.pos, c.behind-next.ensures.word) at c.in_ok-room_kept-in-Ok.ensures)

@@ -1,126 +1,69 @@
-use mathlib.Core.Path.{subst}
-use Prim.Native.Nat.{◌+◌, ◌≤◌, ◌<◌}
+use native.Mathlib.Nat.{add-zero}
 use native.Mathlib.Omega.{arith}
 use lib.ListN.{length}
-use Rattle.piece_room.specs.Rooms.{Asked}
-use Rattle.reread_passes.specs.Numbered.{PieceDry}
-use Rattle.reread_passes.specs.First.{Follows}
-use Rattle.reread_passes.proofs.Dry.{all_kept, dry_first, dry_bad, dry_tail_inside, dry_tail_room, dry_tail, took_inside, took_on, falls}
+use Rattle.std.proofs.lemmas.Result.{err_from_is_err_and}
+use Rattle.reread_passes.proofs.Dry.{all_kept, dry_first, dry_bad, dry_tail_inside, dry_tail_room, dry_tail, took_inside, took_on, follows_words, falls}
 use Rattle.reread_passes.proofs.first.read_dry.Goals as goal
 
-pub returns-then-number-entries : goal.returns-then-number-entries
-returns-then-number-entries c =
-    all_kept c.args.older.now c.args.newer.now c.args.known.words c.args.known.entries c.args.directory.now c.requires.given c.args.front.number c.args.front.pos c.args.front.word c.args.front.counter c.requires.front_is c.if-number-entries.true
+pub returns-then-front-entries : goal.returns-then-front-entries
+returns-then-front-entries c = all_kept c.args.older.now c.args.newer.now c.args.known.words c.args.known.entries c.args.directory.now c.requires.given c.args.front.number c.args.front.pos c.args.front.word c.args.front.counter c.requires.front_is c.if-front-entries.true
 
-pub loop-q-init : goal.loop-q-init
-loop-q-init c =
-    dry_first c.args.older.now c.args.newer.now c.args.known.words c.args.known.entries c.args.directory.now c.requires.given c.args.front.number c.args.front.pos c.args.front.word c.args.front.counter c.requires.front_is c.if-number-entries.false
+pub loop-r-init : goal.loop-r-init
+loop-r-init c = dry_first c.args.older.now c.args.newer.now c.args.known.words c.args.known.entries c.args.directory.now c.requires.given c.args.front.number c.args.front.pos c.args.front.word c.args.front.counter c.requires.front_is c.if-front-entries.false
 
 pub piece_dry-requires : goal.piece_dry-requires
-piece_dry-requires c =
-    record {
-      classes = c.requires.classes;
-      text_len_bound = (c.requires.given.small, c.loop-q.invariant.inside);
-      pos_value = c.loop-q.invariant.start;
-    }
+piece_dry-requires c = record { text_len_bound = (c.requires.given.small, c.loop-r.invariant.inside); pos_value = c.loop-r.invariant.start }
 
-pub overflow_add-result : goal.overflow_add-result
-overflow_add-result c =
-    omega
-    (arith, (subst (PieceDry c.args.newer.now c.loop-q.number c.loop-q.pos c.loop-q.counter) c.in-Refused.is c.piece_dry.ensures).1, c.requires.given.small)
-
-pub returns-in-Refused : goal.returns-in-Refused
-returns-in-Refused c =
-    dry_bad c.args.older.now c.args.newer.now c.args.known.words c.args.known.entries c.args.directory.now c.requires.given c.loop-q.number c.loop-q.pos c.loop-q.word c.loop-q.counter c.loop-q.from c.loop-q.invariant c.in-Refused.q c.in-Refused.p
-    (subst (PieceDry c.args.newer.now c.loop-q.number c.loop-q.pos c.loop-q.counter) c.in-Refused.is c.piece_dry.ensures).0
+pub returns-in-Err : goal.returns-in-Err
+returns-in-Err c = dry_bad c.args.older.now c.args.newer.now c.args.known.words c.args.known.entries c.args.directory.now c.requires.given c.loop-r.spot.number c.loop-r.spot.pos c.loop-r.spot.word c.loop-r.spot.counter c.loop-r.from c.loop-r.invariant c.in-Err.r.question c.in-Err.r.place c.in-Err.ensures.0
 
 pub ask-requires : goal.ask-requires
 ask-requires c =
-    omega (
-      arith,
-      dry_tail_inside c.args.older.now c.args.newer.now c.args.known.words c.args.known.entries c.args.directory.now c.requires.given c.loop-q.number c.loop-q.pos c.loop-q.word c.loop-q.counter c.loop-q.from c.loop-q.invariant c.in-Tail.bytes
-          (subst (PieceDry c.args.newer.now c.loop-q.number c.loop-q.pos c.loop-q.counter) c.in-Tail.is c.piece_dry.ensures),
-      c.requires.given.small,
-    )
+    let t = rw c.in-Ok-Tail.field-0-is at c.in-Ok-Tail.ensures in
+    omega (arith, dry_tail_inside c.args.older.now c.args.newer.now c.args.known.words c.args.known.entries c.args.directory.now c.requires.given c.loop-r.spot.number c.loop-r.spot.pos c.loop-r.spot.word c.loop-r.spot.counter c.loop-r.from c.loop-r.invariant c.in-Ok-Tail.bytes t, c.requires.given.small)
 
-pub returns-in-Refused-ask : goal.returns-in-Refused-ask
-returns-in-Refused-ask c =
-    dry_tail_room c.args.older.now c.args.newer.now c.args.known.words c.args.known.entries c.args.directory.now c.requires.given c.loop-q.number c.loop-q.pos c.loop-q.word c.loop-q.counter c.loop-q.from c.loop-q.invariant c.in-Tail.bytes (subst (PieceDry c.args.newer.now c.loop-q.number c.loop-q.pos c.loop-q.counter) c.in-Tail.is c.piece_dry.ensures) c.in-Refused-ask.q c.in-Refused-ask.p
-    (subst (Asked c.args.known.words (length c.args.directory.now) c.loop-q.number c.loop-q.word 0 (c.loop-q.pos + c.in-Tail.bytes)) c.in-Refused-ask.is c.ask.ensures)
+pub returns-in_err-ask-in-Ok-Tail : goal.returns-in_err-ask-in-Ok-Tail
+returns-in_err-ask-in-Ok-Tail c =
+    let t = rw c.in-Ok-Tail.field-0-is at c.in-Ok-Tail.ensures in
+    let p = err_from_is_err_and c.from_residual.result c.from_residual.ensures.1 in
+    rw (p.1, p.2) (dry_tail_room c.args.older.now c.args.newer.now c.args.known.words c.args.known.entries c.args.directory.now c.requires.given c.loop-r.spot.number c.loop-r.spot.pos c.loop-r.spot.word c.loop-r.spot.counter c.loop-r.from c.loop-r.invariant c.in-Ok-Tail.bytes t c.in_err-ask-in-Ok-Tail.field-0.0.question c.in_err-ask-in-Ok-Tail.field-0.0.place c.in_err-ask-in-Ok-Tail.ensures)
 
-pub overflow_add-next : goal.overflow_add-next
-overflow_add-next c = omega (arith, c.loop-q.invariant.in_dir)
+pub behind-requires-clause-bytes : goal.behind-requires-clause-bytes
+behind-requires-clause-bytes c =
+    let t = rw c.in-Ok-Tail.field-0-is at c.in-Ok-Tail.ensures in
+    omega (arith, dry_tail_inside c.args.older.now c.args.newer.now c.args.known.words c.args.known.entries c.args.directory.now c.requires.given c.loop-r.spot.number c.loop-r.spot.pos c.loop-r.spot.word c.loop-r.spot.counter c.loop-r.from c.loop-r.invariant c.in-Ok-Tail.bytes t, c.requires.given.small)
 
-pub overflow_add-next-in-Fine : goal.overflow_add-next-in-Fine
-overflow_add-next-in-Fine c =
-    omega (
-      arith,
-      dry_tail_inside c.args.older.now c.args.newer.now c.args.known.words c.args.known.entries c.args.directory.now c.requires.given c.loop-q.number c.loop-q.pos c.loop-q.word c.loop-q.counter c.loop-q.from c.loop-q.invariant c.in-Tail.bytes
-          (subst (PieceDry c.args.newer.now c.loop-q.number c.loop-q.pos c.loop-q.counter) c.in-Tail.is c.piece_dry.ensures),
-      c.requires.given.small,
-    )
-
-pub returns-in-Fine : goal.returns-in-Fine
-returns-in-Fine c =
-    dry_tail c.args.older.now c.args.newer.now c.args.known.words c.args.known.entries c.args.directory.now c.requires.given c.loop-q.number c.loop-q.pos c.loop-q.word c.loop-q.counter c.loop-q.from c.loop-q.invariant c.in-Tail.bytes (subst (PieceDry c.args.newer.now c.loop-q.number c.loop-q.pos c.loop-q.counter) c.in-Tail.is c.piece_dry.ensures)
-    (subst (Asked c.args.known.words (length c.args.directory.now) c.loop-q.number c.loop-q.word 0 (c.loop-q.pos + c.in-Tail.bytes)) c.in-Fine.is c.ask.ensures)
+pub returns-in-Ok-Tail : goal.returns-in-Ok-Tail
+returns-in-Ok-Tail c =
+    let t = rw c.in-Ok-Tail.field-0-is at c.in-Ok-Tail.ensures in
+    rw (c.behind.ensures.number, c.behind.ensures.pos, c.behind.ensures.word, add-zero c.loop-r.spot.word) (dry_tail c.args.older.now c.args.newer.now c.args.known.words c.args.known.entries c.args.directory.now c.requires.given c.loop-r.spot.number c.loop-r.spot.pos c.loop-r.spot.word c.loop-r.spot.counter c.loop-r.from c.loop-r.invariant c.in-Ok-Tail.bytes t c.in_ok-ask-in-Ok-Tail.ensures)
 
 pub follow-requires : goal.follow-requires
 follow-requires c =
-    record {
-      end_value = c.requires.end_value;
-      given = c.requires.given;
-      took = (record { dry = c.loop-q.invariant; ws = (subst (PieceDry c.args.newer.now c.loop-q.number c.loop-q.pos c.loop-q.counter) c.in-Read.is c.piece_dry.ensures).ws; is = (subst (PieceDry c.args.newer.now c.loop-q.number c.loop-q.pos c.loop-q.counter) c.in-Read.is c.piece_dry.ensures).is; many = (subst (PieceDry c.args.newer.now c.loop-q.number c.loop-q.pos c.loop-q.counter) c.in-Read.is c.piece_dry.ensures).many });
-    }
+    let g = rw c.in-Ok-Read.field-0-is at c.in-Ok-Read.ensures in
+    record { end_value = c.requires.end_value; given = c.requires.given; took = record { dry = c.loop-r.invariant; ws = g.ws; is = g.is; many = g.many } }
 
-pub returns-in-Refused-follow : goal.returns-in-Refused-follow
-returns-in-Refused-follow c =
-    subst (Follows c.args.older.now c.args.newer.now c.args.known.words c.args.known.entries c.args.directory.now (c.loop-q.number + 1) (c.loop-q.pos + c.in-Read.bytes) (c.loop-q.word + c.in-Read.words) c.in-Read.behind) c.in-Refused-follow.is c.follow.ensures
+pub returns-in_err-found-in-Ok-Read : goal.returns-in_err-found-in-Ok-Read
+returns-in_err-found-in-Ok-Read c =
+    let p = err_from_is_err_and c.from_residual-in_err-found-in-Ok-Read.result c.from_residual-in_err-found-in-Ok-Read.ensures.1 in
+    rw (p.1, p.2) c.in_err-found-in-Ok-Read.ensures
 
-pub overflow_add-next-in-Keep : goal.overflow_add-next-in-Keep
-overflow_add-next-in-Keep c =
-    omega
-    (arith, c.loop-q.invariant.in_dir)
+pub behind-next-requires-clause-bytes : goal.behind-next-requires-clause-bytes
+behind-next-requires-clause-bytes c =
+    let g = rw c.in-Ok-Read.field-0-is at c.in-Ok-Read.ensures in
+    omega (arith, took_inside c.args.older.now c.args.newer.now c.args.known.words c.args.known.entries c.args.directory.now c.requires.given c.loop-r.spot.number c.loop-r.spot.pos c.loop-r.spot.word c.loop-r.spot.counter c.loop-r.from c.in-Ok-Read.size.bytes c.in-Ok-Read.size.words c.in-Ok-Read.counter (record { dry = c.loop-r.invariant; ws = g.ws; is = g.is; many = g.many }), c.requires.given.small)
 
-pub overflow_add-next-in-Keep-2 : goal.overflow_add-next-in-Keep-2
-overflow_add-next-in-Keep-2 c =
-    omega (
-      arith,
-      took_inside c.args.older.now c.args.newer.now c.args.known.words c.args.known.entries c.args.directory.now c.requires.given c.loop-q.number c.loop-q.pos c.loop-q.word c.loop-q.counter c.loop-q.from c.in-Read.bytes c.in-Read.words c.in-Read.behind
-          (record { dry = c.loop-q.invariant; ws = (subst (PieceDry c.args.newer.now c.loop-q.number c.loop-q.pos c.loop-q.counter) c.in-Read.is c.piece_dry.ensures).ws; is = (subst (PieceDry c.args.newer.now c.loop-q.number c.loop-q.pos c.loop-q.counter) c.in-Read.is c.piece_dry.ensures).is; many = (subst (PieceDry c.args.newer.now c.loop-q.number c.loop-q.pos c.loop-q.counter) c.in-Read.is c.piece_dry.ensures).many }),
-      c.requires.given.small,
-    )
+pub behind-next-requires-clause-words : goal.behind-next-requires-clause-words
+behind-next-requires-clause-words c = omega (arith, follows_words _ _ _ _ _ _ _ _ _ _ c.in_ok-found-in-Ok-Read.ensures)
 
-pub overflow_add-next-in-Keep-3 : goal.overflow_add-next-in-Keep-3
-overflow_add-next-in-Keep-3 c = omega (arith, (subst (Follows c.args.older.now c.args.newer.now c.args.known.words c.args.known.entries c.args.directory.now (c.loop-q.number + 1) (c.loop-q.pos + c.in-Read.bytes) (c.loop-q.word + c.in-Read.words) c.in-Read.behind) c.in-Keep.is c.follow.ensures).settled.room.in_words)
+pub returns-in-Ok : goal.returns-in-Ok
+returns-in-Ok c = rw (c.behind-next.ensures.number, c.behind-next.ensures.pos, c.behind-next.ensures.word) (rw c.in-Ok.is at c.in_ok-found-in-Ok-Read.ensures)
 
-pub returns-in-Keep : goal.returns-in-Keep
-returns-in-Keep c =
-    (subst (Follows c.args.older.now c.args.newer.now c.args.known.words c.args.known.entries c.args.directory.now (c.loop-q.number + 1) (c.loop-q.pos + c.in-Read.bytes) (c.loop-q.word + c.in-Read.words) c.in-Read.behind) c.in-Keep.is c.follow.ensures)
+pub loop-r-smaller : goal.loop-r-smaller
+loop-r-smaller c =
+    let g = rw c.in-Ok-Read.field-0-is at c.in-Ok-Read.ensures in
+    rw (c.behind-next.ensures.number, c.behind-next.ensures.pos)
+    (falls (length c.args.newer.now) c.loop-r.spot.pos c.in-Ok-Read.size.bytes c.loop-r.spot.number (took_inside c.args.older.now c.args.newer.now c.args.known.words c.args.known.entries c.args.directory.now c.requires.given c.loop-r.spot.number c.loop-r.spot.pos c.loop-r.spot.word c.loop-r.spot.counter c.loop-r.from c.in-Ok-Read.size.bytes c.in-Ok-Read.size.words c.in-Ok-Read.counter (record { dry = c.loop-r.invariant; ws = g.ws; is = g.is; many = g.many })) (took_on c.args.older.now c.args.newer.now c.args.known.words c.args.known.entries c.args.directory.now c.requires.given c.loop-r.spot.number c.loop-r.spot.pos c.loop-r.spot.word c.loop-r.spot.counter c.loop-r.from c.in-Ok-Read.size.bytes c.in-Ok-Read.size.words c.in-Ok-Read.counter (record { dry = c.loop-r.invariant; ws = g.ws; is = g.is; many = g.many })))
 
-pub overflow_add-number : goal.overflow_add-number
-overflow_add-number c =
-    omega
-    (arith, c.loop-q.invariant.in_dir)
-
-pub overflow_add-pos : goal.overflow_add-pos
-overflow_add-pos c =
-    omega (
-      arith,
-      took_inside c.args.older.now c.args.newer.now c.args.known.words c.args.known.entries c.args.directory.now c.requires.given c.loop-q.number c.loop-q.pos c.loop-q.word c.loop-q.counter c.loop-q.from c.in-Read.bytes c.in-Read.words c.in-Read.behind
-          (record { dry = c.loop-q.invariant; ws = (subst (PieceDry c.args.newer.now c.loop-q.number c.loop-q.pos c.loop-q.counter) c.in-Read.is c.piece_dry.ensures).ws; is = (subst (PieceDry c.args.newer.now c.loop-q.number c.loop-q.pos c.loop-q.counter) c.in-Read.is c.piece_dry.ensures).is; many = (subst (PieceDry c.args.newer.now c.loop-q.number c.loop-q.pos c.loop-q.counter) c.in-Read.is c.piece_dry.ensures).many }),
-      c.requires.given.small,
-    )
-
-pub overflow_add-word : goal.overflow_add-word
-overflow_add-word c = omega (arith, (subst (Follows c.args.older.now c.args.newer.now c.args.known.words c.args.known.entries c.args.directory.now (c.loop-q.number + 1) (c.loop-q.pos + c.in-Read.bytes) (c.loop-q.word + c.in-Read.words) c.in-Read.behind) c.in-More.is c.follow.ensures).in_words)
-
-pub loop-q-smaller : goal.loop-q-smaller
-loop-q-smaller c =
-    let a : c.loop-q.pos + c.in-Read.bytes ≤ length c.args.newer.now = took_inside c.args.older.now c.args.newer.now c.args.known.words c.args.known.entries c.args.directory.now c.requires.given c.loop-q.number c.loop-q.pos c.loop-q.word c.loop-q.counter c.loop-q.from c.in-Read.bytes c.in-Read.words c.in-Read.behind (record { dry = c.loop-q.invariant; ws = (subst (PieceDry c.args.newer.now c.loop-q.number c.loop-q.pos c.loop-q.counter) c.in-Read.is c.piece_dry.ensures).ws; is = (subst (PieceDry c.args.newer.now c.loop-q.number c.loop-q.pos c.loop-q.counter) c.in-Read.is c.piece_dry.ensures).is; many = (subst (PieceDry c.args.newer.now c.loop-q.number c.loop-q.pos c.loop-q.counter) c.in-Read.is c.piece_dry.ensures).many }) in
-    let b : 0 < c.loop-q.number → 1 ≤ c.in-Read.bytes = took_on c.args.older.now c.args.newer.now c.args.known.words c.args.known.entries c.args.directory.now c.requires.given c.loop-q.number c.loop-q.pos c.loop-q.word c.loop-q.counter c.loop-q.from c.in-Read.bytes c.in-Read.words c.in-Read.behind (record { dry = c.loop-q.invariant; ws = (subst (PieceDry c.args.newer.now c.loop-q.number c.loop-q.pos c.loop-q.counter) c.in-Read.is c.piece_dry.ensures).ws; is = (subst (PieceDry c.args.newer.now c.loop-q.number c.loop-q.pos c.loop-q.counter) c.in-Read.is c.piece_dry.ensures).is; many = (subst (PieceDry c.args.newer.now c.loop-q.number c.loop-q.pos c.loop-q.counter) c.in-Read.is c.piece_dry.ensures).many }) in
-    falls (length c.args.newer.now) c.loop-q.pos c.in-Read.bytes c.loop-q.number a b
-
-pub loop-q-preserved : goal.loop-q-preserved
-loop-q-preserved c =
-    (subst (Follows c.args.older.now c.args.newer.now c.args.known.words c.args.known.entries c.args.directory.now (c.loop-q.number + 1) (c.loop-q.pos + c.in-Read.bytes) (c.loop-q.word + c.in-Read.words) c.in-Read.behind) c.in-More.is c.follow.ensures)
+pub loop-r-preserved : goal.loop-r-preserved
+loop-r-preserved c = rw (c.behind-next.ensures.number, c.behind-next.ensures.pos, c.behind-next.ensures.word, c.behind-next.ensures.counter) (rw c.in-Err-found.is at c.in_ok-found-in-Ok-Read.ensures)
