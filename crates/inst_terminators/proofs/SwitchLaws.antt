@@ -173,19 +173,6 @@ shows_labels n m ints labels {text} {z} b k low _ _ _ j e (keeps x {mid = us} {c
     record { cur = cur; is = refl; at = subst (λ (l : List ℕ). At b text z k low l cur words) (cases_same m n x ints us labels cur.at j e) (at_less k (omega arith) a) }
 shows_labels n m ints labels b k low _ _ _ j e (keeps_not {e = en} {q = x}) = ok_not (cases n ints labels) j en x (sym e)
 
-pub taken_in : (i : ℕ) (c : Cursor) (q : Parsed) (w : List ℕ) → q ≡ Ok c → i < c.w → get_or w i 0 ≡ taken_p i q w
-taken_in i c q w e h = rw (e, lt-ltb _ _ h)
-
-pub taken_past : (i : ℕ) (c : Cursor) (q : Parsed) (w : List ℕ) → q ≡ Ok c → length w ≤ i → 0 ≡ taken_p i q w
-taken_past i c q w e l = go (ltb i c.w) refl
-  where
-    go : (b : Bool) → ltb i c.w ≡ b → 0 ≡ taken_p i q w
-    go true t = rw (e, t) (sym (beyond w i l))
-    go false t = rw (e, t)
-
-pub taken_out : (i : ℕ) (c : Cursor) (q : Parsed) (w : List ℕ) → q ≡ Ok c → c.w ≤ i → 0 ≡ taken_p i q w
-taken_out i c q w e h = rw (e, le-ltb _ _ h)
-
 -- the count goes to the word that was left open for it, and the node ends
 pub switch_close : (x ints labels : List ℕ) (def n m : ℕ) {c : ℕ} {text : List ℕ} {p0 p q r : Parsed} {w v w' : List ℕ} → m ≡ n - switch_front → (q ≡ p) × (v ≡ patches 1 m p0 p w) → (r ≡ q) × (w' ≡ closes 54 0 n p0 q v) → Leads (ret (switch_node x def (cases n ints labels))) c (0 ∷ 0 ∷ (((ints ++ x) ++ label_node def) ++ labels)) (made same text p0) text p0 p w r w'
 unfolding switch_node

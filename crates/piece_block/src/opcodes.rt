@@ -163,7 +163,7 @@ pub fn statement_opcode(text: &[u8], from: usize, to: usize) -> u8
 
 // The opcode that stands from a place to another, which is likely kw, whose rank is k.
 fn likely(text: &[u8], from: usize, to: usize, kw: &[u8], k: u8) -> u8
-    requires { (k ≡ rank kw.now value_opcodes) }
+    requires { k ≡ rank kw.now value_opcodes }
     ensures { result ≡ rank (spelled (raw_word (part text.now from to))) value_opcodes }
 {
     if lexer_spelling::spells(text, from, to, kw) {
@@ -209,7 +209,7 @@ pub fn value_rank(text: &[u8], from: usize, to: usize) -> u8
 
 // The word that begins a statement, from a place to another, which is likely kw, whose rank is k.
 fn likely_statement(text: &[u8], from: usize, to: usize, kw: &[u8], k: u8) -> u8
-    requires { (k ≡ rank kw.now statement_words) }
+    requires { k ≡ rank kw.now statement_words }
     ensures { result ≡ rank (spelled (raw_word (part text.now from to))) statement_words }
 {
     if lexer_spelling::spells(text, from, to, kw) {
@@ -276,7 +276,7 @@ pub fn value_inst(text: &[u8], words: &mut [u64], p: Parsed, r: u8, dest: u64) -
 
 // A terminator behind its word.
 pub fn terminator(text: &[u8], words: &mut [u64], p: Parsed, r: u8) -> Parsed
-    requires { (r < 4) }
+    requires { r < 4 }
     ensures { Leads (terminator_at r) 3 [] (richly text.now (made same text.now p)) text.now p p words.old result words.new }
 {
     match r {
@@ -289,7 +289,7 @@ pub fn terminator(text: &[u8], words: &mut [u64], p: Parsed, r: u8) -> Parsed
 
 // An instruction without a destination behind its word, where the counter is c; 9 where no opcode stands there.
 pub fn plain_inst(text: &[u8], words: &mut [u64], p: Parsed, r: u8, c: u64) -> Counter
-    requires { (4 ≤ r) }
+    requires { 4 ≤ r }
     ensures { Leads (plain_at c r) 3 [] (richly text.now (made (counted result.c) text.now p)) text.now p p words.old result.p words.new }
 {
     if S_TAIL <= r {

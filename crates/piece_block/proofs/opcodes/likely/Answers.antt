@@ -3,4 +3,4 @@ use Rattle.piece_block.proofs.StatementLaws.{rank_same}
 use Rattle.piece_block.proofs.opcodes.likely.Goals as goal
 
 pub returns-then-spells : goal.returns-then-spells
-returns-then-spells c = rank_same _ _ _ c.requires.0 c.spells.ensures c.if-spells.true
+returns-then-spells c = rank_same _ _ _ c.requires c.spells.ensures c.if-spells.true

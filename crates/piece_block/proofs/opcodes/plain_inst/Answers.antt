@@ -44,5 +44,5 @@ shape_of-words c = c.parse_plain_call.auto.words
 pub returns : goal.returns
 unfolding plain_at
 returns c =
-    let e : c.args.r ≡ 6 = omega (arith, c.requires.0, c.if-r-ge-S_TAIL.false, above (above c.requires.0 c.if-r-eq-S_STORE.false) c.if-r-eq-S_FENCE.false) in
+    let e : c.args.r ≡ 6 = omega (arith, c.requires, c.if-r-ge-S_TAIL.false, above (above c.requires c.if-r-eq-S_STORE.false) c.if-r-eq-S_FENCE.false) in
     turn (ap (plain_at _) e) (paid_rich c.parse_plain_call.ensures (omega arith))

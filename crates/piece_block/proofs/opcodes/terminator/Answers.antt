@@ -6,18 +6,6 @@ use Rattle.lexer.proofs.Laws.{turn}
 use Rattle.piece_block.proofs.StatementLaws.{paid, paid_rich}
 use Rattle.piece_block.proofs.opcodes.terminator.Goals as goal
 
-pub parse_ret-requires : goal.parse_ret-requires
-parse_ret-requires c = c.requires.1
-
-pub parse_br-requires : goal.parse_br-requires
-parse_br-requires c = c.requires.1
-
-pub parse_switch-requires : goal.parse_switch-requires
-parse_switch-requires c = c.requires.1
-
-pub parse_unreachable-requires : goal.parse_unreachable-requires
-parse_unreachable-requires c = c.requires.1
-
 pub shape_of-words-in-0 : goal.shape_of-words-in-0
 shape_of-words-in-0 c = c.parse_ret.auto.words
 
@@ -50,4 +38,4 @@ shape_of-words-in_default c = c.parse_unreachable.auto.words
 
 pub returns-in_default : goal.returns-in_default
 unfolding terminator_at
-returns-in_default c = let e : c.args.r ≡ 3 = omega (arith, c.requires.0) in turn (ap terminator_at e) (paid c.parse_unreachable.ensures (omega arith))
+returns-in_default c = let e : c.args.r ≡ 3 = omega (arith, c.requires) in turn (ap terminator_at e) (paid c.parse_unreachable.ensures (omega arith))
