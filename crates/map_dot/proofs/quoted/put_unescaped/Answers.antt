@@ -1,7 +1,7 @@
 use mathlib.Core.Path.{◌≡◌, refl, ◌∙◌}
 use mathlib.Core.List.{[]}
 use native.Mathlib.Omega.{arith}
-use lib.ListN.{length, drop}
+use lib.ListN.{drop}
 use Rattle.grammar.specs.Lexer.{unescape}
 use Rattle.lexer_names.specs.Names.{spelled_of}
 use Rattle.buffer.specs.Stored.{stored, placed}
