@@ -105,11 +105,7 @@ pub fn zimlokur_child(words: &[u64], at: u64, to: &mut u64) -> u64
 pub fn zimlokur_next(words: &[u64], at: u64, end: u64, to: &mut u64) -> u64
     ensures { ReportsStep (next_of words.now at end) at result to.new }
 {
-    report_step(
-        record_steps::next(words, at as usize, end as usize),
-        at,
-        to,
-    )
+    report_step(record_steps::next(words, at as usize, end as usize), at, to)
 }
 
 // The text of a name. Returns 1 with the part's start and length in the piece, or 0 with both 0.
