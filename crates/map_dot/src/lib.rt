@@ -25,6 +25,7 @@ fn put_node(out: &mut [u8], at: usize, piece: &[u8], label: Label) -> usize
 
 // The node lines of n blocks, or their edge lines: the blocks stand behind the head, in words and directory. Once the text is too long for any
 // buffer nothing is looked at any more.
+// `edges` is a flag and no closure: the passes differ in one call, and `sort_of_lines` picks their definition by it.
 fn put_lines(
     out: &mut [u8],
     at: usize,

@@ -71,11 +71,7 @@ fn put_unescaped(out: &mut [u8], at: usize, inner: &[u8]) -> usize
 {
     let mut k = at;
     let mut i = 0;
-    while i < inner.len() {
-        let x = lexer_spelling::next_letter(inner, true, i);
-        if !x.there {
-            return k;
-        }
+    while let Some(x) = lexer_spelling::next_letter(inner, true, i) {
         k = put_letter(out, k, x.b);
         i = x.next;
     }
