@@ -18,8 +18,7 @@ use Rattle.lexer.specs.Reads.{Budget, At, Ends, at, out, Leads, Goal, made, same
 use Rattle.lexer.specs.declared.Cursor.{Cursor}
 use Rattle.lexer.specs.Parsed.{Parsed}
 use Rattle.lexer.specs.Step.{refused_at}
-use Rattle.piece_counter.proofs.CounterLaws.{g_fail_at}
-use Rattle.lexer.proofs.Laws.{g_done, done, same_word_lem, after, bind_at, true_false, at_less, at_place, at_part, at_whole, spare}
+use Rattle.lexer.proofs.Laws.{g_done, done, same_word_lem, after, bind_at, true_false, at_less, at_place, at_part, at_whole, spare, g_fail_at}
 use Rattle.lexer_names.proofs.Passed.{word_long}
 use Rattle.inst_operands.specs.Rich.{richly}
 use Rattle.inst_operands.proofs.RichLaws.{enrich, then_rich}

@@ -15,9 +15,6 @@ shape_of-words-then-looks c = c.loop-left.invariant.2
 pub returns-then-looks : goal.returns-then-looks
 returns-then-looks c = body_tail _ _ _ _ _ c.loop-left.invariant.1 c.loop-left-test.true c.eat_ws-r.ensures c.looks.ensures c.if-looks.true c.pass-r1.ensures
 
-pub overflow_sub-left : goal.overflow_sub-left
-overflow_sub-left c = omega (arith, c.loop-left-test.true)
-
 pub loop-left-smaller-then-kind-eq-LABEL : goal.loop-left-smaller-then-kind-eq-LABEL
 loop-left-smaller-then-kind-eq-LABEL c = omega (arith, c.loop-left-test.true)
 
@@ -27,9 +24,6 @@ loop-left-preserved-then-kind-eq-LABEL c =
 
 pub overflow_add-n : goal.overflow_add-n
 overflow_add-n c = omega (arith, c.loop-left.invariant.0)
-
-pub overflow_sub-left-then-kind-eq-INSTRUCTION : goal.overflow_sub-left-then-kind-eq-INSTRUCTION
-overflow_sub-left-then-kind-eq-INSTRUCTION c = omega (arith, c.loop-left-test.true)
 
 pub loop-left-smaller : goal.loop-left-smaller
 loop-left-smaller c = omega (arith, c.loop-left-test.true)
