@@ -11,7 +11,7 @@ use native.Mathlib.Omega.{arith}
 use lib.ListN.{length}
 use Rattle.program.specs.Prog.{Prog, ret, ok}
 use Rattle.grammar.specs.Instructions.{clauses, alloca_node}
-use Rattle.node_words.specs.Writes.{joined, pushed, pushes, closes}
+use Rattle.node_words.specs.Writes.{joined, pushed, closes}
 use Rattle.lexer.specs.Reads.{At, at, out, Leads, Goal, made, same}
 use Rattle.lexer.specs.Parsed.{Parsed, Refused}
 use Rattle.lexer.proofs.Laws.{spare, true_false}

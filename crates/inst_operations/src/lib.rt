@@ -8,7 +8,7 @@ ghost use Rattle.grammar.specs.Instructions.{two_operands, binary, unary, parse_
 ghost use Rattle.lexer.specs.Reads.{Leads, Reads, made, same, Gives};
 ghost use Rattle.program.specs.Bytes.{bytes};
 ghost use Rattle.grammar.specs.Lexer.{skip_keyword};
-ghost use Rattle.lexer.specs.Table.{words_of};
+ghost use Rattle.lexer.specs.Table.{keywords_of};
 ghost use Rattle.grammar.specs.Types.{listed};
 
 use lexer::Parsed;
@@ -83,7 +83,7 @@ static FCMP_PREDICATES: [&[u8]; 16] = [
 // A predicate of a table, by its rank (`parse_fcmp_pred`, `parse_icmp_pred`).
 fn parse_predicate(text: &[u8], p: Parsed, table: &[&[u8]]) -> Pred
     requires { length table.now ≤ 256 }
-    ensures { Gives (predicate (words_of table.now)) result.r text.now p result.p }
+    ensures { Gives (predicate (keywords_of table.now)) result.r text.now p result.p }
 {
     let k = lexer_keywords::match_rank(text, lexer::eat_ws(text, p), table);
     if k.r < table.len() {

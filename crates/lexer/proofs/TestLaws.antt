@@ -15,7 +15,7 @@ use Rattle.grammar.specs.Values.{prefix_if, digit_if}
 use Rattle.lexer.specs.Step.{looks_p, passed}
 use Rattle.lexer.specs.Reads.{Leads, Goal}
 use Rattle.lexer.specs.declared.Cursor.{Cursor}
-use Rattle.lexer.specs.Parsed.{Parsed, Ok, Err, Refused}
+use Rattle.lexer.specs.Parsed.{Parsed, Ok, Err}
 use Rattle.program.specs.Lists.{drop_next}
 use Rattle.lexer.proofs.Scan.{wordy, wordless}
 use Rattle.lexer.proofs.Laws.{moved, run_eat_n, true_false, byte_no}

@@ -4,8 +4,8 @@ use Rattle.std.specs.Prelude.{Bool, true, false, List, [], ◌∷◌, ℕ, map}
 use Rattle.std.proofs.Common.{Bor}
 
 -- 01: "constant tables": the words of a table, each a byte string
-abbrev pub words_of : List (Bor (List ℕ)) → List (List ℕ)
-words_of table = map (λ word. word.now) table
+abbrev pub keywords_of : List (Bor (List ℕ)) → List (List ℕ)
+keywords_of table = map (λ word. word.now) table
 
 -- no word of the table is empty
 abbrev pub full : List (List ℕ) → Bool

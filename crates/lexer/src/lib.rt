@@ -7,7 +7,7 @@ pub mod limits; // limits.rt: the classes of bytes by name
 pub mod lists; // lists.rt: what lists share
 pub mod tests; // tests.rt: the beginning of a word, and a digit
 
-ghost use Rattle.std.specs.Prelude.{◌≡◌, ℕ, ◌+◌, ◌-◌, length, drop};
+ghost use Rattle.std.specs.Prelude.{◌≡◌, ℕ, ◌+◌, length, drop};
 ghost use Rattle.std.proofs.Math.Option.{Option};
 ghost use Rattle.program.specs.Class.{class_of};
 ghost use Rattle.program.specs.Prog.{scan_len, lead_word, byte_at};
@@ -63,13 +63,6 @@ pub struct Num {
 pub struct Stop {
     pub at: usize,
     pub q: u8,
-}
-
-// The difference, or 0.
-pub fn minus(to: usize, from: usize) -> usize
-    ensures { result ≡ to - from }
-{
-    to.saturating_sub(from)
 }
 
 // One more, up to 2^32.

@@ -23,7 +23,7 @@ use borrow.Author.Tests.{lt-ltb, le-ltb, leb-true, leb-false, ltb-true, ltb-fals
 use Rattle.program.specs.Class.{class_of, is_word}
 use Rattle.program.specs.Prog.{Prog, Res, run, lead_word}
 use Rattle.grammar.specs.Lexer.{same_word, rank, rank_if, eat_n}
-use Rattle.lexer.specs.Table.{words_of, full}
+use Rattle.lexer.specs.Table.{keywords_of, full}
 use Rattle.lexer.specs.Step.{passed, rank_p, ranked_p}
 use Rattle.lexer.specs.Reads.{Leads, Goal, Inside, Aim, Finds}
 use Rattle.lexer.specs.declared.Cursor.{Cursor}
@@ -41,7 +41,7 @@ same_bytes [] (y ∷ b) = refl
 same_bytes (x ∷ a) [] = refl
 same_bytes (x ∷ a) (y ∷ b) = ap (λ (z : Bool). eqb x y && z) (same_bytes a b)
 
-pub words_length : (table : List (Bor (List ℕ))) → length (words_of table) ≡ length table
+pub words_length : (table : List (Bor (List ℕ))) → length (keywords_of table) ≡ length table
 words_length [] = refl
 words_length (x ∷ table) = ap suc (words_length table)
 
@@ -50,15 +50,15 @@ module _ (w : List ℕ) where
   abbrev is_w : Bor (List ℕ) → Bool
   is_w word = same_word w word.now
 
-  rank_place : (table : List (Bor (List ℕ))) → rank w (words_of table) ≡ position_or_len is_w table
+  rank_place : (table : List (Bor (List ℕ))) → rank w (keywords_of table) ≡ position_or_len is_w table
   unfolding rank
-  rank_place = is_position_or_len (λ table. rank w (words_of table)) is_w refl (λ x xs. step (same_word w x.now) (rank w (words_of xs)))
+  rank_place = is_position_or_len (λ table. rank w (keywords_of table)) is_w refl (λ x xs. step (same_word w x.now) (rank w (keywords_of xs)))
     where
       step : (z : Bool) (r : ℕ) → elim z [ true ↦ 0 | false ↦ suc r ] ≡ cond z 0 (1 + r)
       step true r = refl
       step false r = omega arith
 
-  pub rank_found : (table : List (Bor (List ℕ))) (r : Option ℕ) → r ≡ cond (ltb (position_or_len (λ word. same_word w word.now) table) (length table)) (Some (position_or_len (λ word. same_word w word.now) table)) None → unwrap_or r (length table) ≡ rank w (words_of table)
+  pub rank_found : (table : List (Bor (List ℕ))) (r : Option ℕ) → r ≡ cond (ltb (position_or_len (λ word. same_word w word.now) table) (length table)) (Some (position_or_len (λ word. same_word w word.now) table)) None → unwrap_or r (length table) ≡ rank w (keywords_of table)
   rank_found table r e = rw (e, rank_place table) (within _ _ (prefix_len-le-length (λ word. not (same_word w word.now)) table))
     where
       within : (p n : ℕ) → p ≤ n → unwrap_or (cond (ltb p n) (Some p) None) n ≡ p
@@ -152,20 +152,20 @@ lead_end s {at} {i} {m} l h e g =
     omega (arith, lead_le (drop at s), length-drop at s)
 
 -- the rank of the next word, which ends at i
-module _ (text : List ℕ) (table : List (Bor (List ℕ))) (cur : Cursor) (i r : ℕ) (e : i ≡ cur.at + length (lead_word (drop cur.at text))) (h : r ≡ rank (take (i - cur.at) (drop cur.at text)) (words_of table)) where
-  ranks : r ≡ rank (lead_word (drop cur.at text)) (words_of table)
+module _ (text : List ℕ) (table : List (Bor (List ℕ))) (cur : Cursor) (i r : ℕ) (e : i ≡ cur.at + length (lead_word (drop cur.at text))) (h : r ≡ rank (take (i - cur.at) (drop cur.at text)) (keywords_of table)) where
+  ranks : r ≡ rank (lead_word (drop cur.at text)) (keywords_of table)
   ranks =
       let z : i - cur.at ≡ length (lead_word (drop cur.at text)) = omega arith in
       h ∙ rw (z, lead_take (drop cur.at text))
 
-  pub ranks_in : r < length table → (r ≡ rank_p (words_of table) text (Ok cur)) × (Ok (record { at = i; w = cur.w }) ≡ ranked_p (words_of table) text (Ok cur))
+  pub ranks_in : r < length table → (r ≡ rank_p (keywords_of table) text (Ok cur)) × (Ok (record { at = i; w = cur.w }) ≡ ranked_p (keywords_of table) text (Ok cur))
   ranks_in l =
-      let k : rank (lead_word (drop cur.at text)) (words_of table) < length (words_of table) = omega (arith, ranks, words_length table) in
+      let k : rank (lead_word (drop cur.at text)) (keywords_of table) < length (keywords_of table) = omega (arith, ranks, words_length table) in
       (ranks, rw (lt-ltb _ _ k, e))
 
-  pub ranks_out : length table ≤ r → (r ≡ rank_p (words_of table) text (Ok cur)) × (Ok cur ≡ ranked_p (words_of table) text (Ok cur))
+  pub ranks_out : length table ≤ r → (r ≡ rank_p (keywords_of table) text (Ok cur)) × (Ok cur ≡ ranked_p (keywords_of table) text (Ok cur))
   ranks_out l =
-      let k : length (words_of table) ≤ rank (lead_word (drop cur.at text)) (words_of table) = omega (arith, ranks, words_length table) in
+      let k : length (keywords_of table) ≤ rank (lead_word (drop cur.at text)) (keywords_of table) = omega (arith, ranks, words_length table) in
       (ranks, rw (le-ltb _ _ k))
 
 -- a word of a table without empty ones is not empty

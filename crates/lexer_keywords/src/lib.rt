@@ -6,7 +6,7 @@ ghost use Rattle.std.specs.Fn.{FnReturnsAt};
 ghost use Rattle.program.specs.Prog.{lead_word};
 ghost use Rattle.grammar.specs.Lexer.{same_word, rank, skip_one, skip_all};
 ghost use Rattle.records.specs.Limits.{turns};
-ghost use Rattle.lexer.specs.Table.{words_of};
+ghost use Rattle.lexer.specs.Table.{keywords_of};
 ghost use Rattle.lexer.specs.Step.{rank_p, ranked_p};
 ghost use Rattle.lexer.specs.Reads.{Gives};
 
@@ -23,7 +23,7 @@ pub struct Ranked {
 // The rank in a table of the word that a test knows: how many words stand before the first that passes it, and the table's length where none does.
 pub fn rank_by<F: Fn(&[u8]) -> bool>(table: &[&[u8]], is_it: F) -> usize
     requires { F.IsAlwaysCallable is_it }
-    ensures { (w : List ℕ) → ((word : List ℕ) (r : Bool) → FnReturnsAt F.Fn is_it word r → r ≡ same_word w word) → result ≡ rank w (words_of table.now) }
+    ensures { (w : List ℕ) → ((word : List ℕ) (r : Bool) → FnReturnsAt F.Fn is_it word r → r ≡ same_word w word) → result ≡ rank w (keywords_of table.now) }
 {
     table
         .iter()
@@ -33,7 +33,7 @@ pub fn rank_by<F: Fn(&[u8]) -> bool>(table: &[&[u8]], is_it: F) -> usize
 
 // The rank of w in a table: how many words stand before it, and the table's length where it is not in it.
 pub fn rank_in(w: &[u8], table: &[&[u8]]) -> usize
-    ensures { result ≡ rank w.now (words_of table.now) }
+    ensures { result ≡ rank w.now (keywords_of table.now) }
 {
     rank_by(table, |word| w == word)
 }
@@ -48,7 +48,7 @@ pub fn part(text: &[u8], from: usize, to: usize) -> &[u8]
 
 // The rank of the bytes of a text from a place to another.
 pub fn rank_of(text: &[u8], from: usize, to: usize, table: &[&[u8]]) -> usize
-    ensures { result ≡ rank (take (to - from) (drop from text.now)) (words_of table.now) }
+    ensures { result ≡ rank (take (to - from) (drop from text.now)) (keywords_of table.now) }
 {
     rank_in(part(text, from, to), table)
 }
@@ -67,7 +67,7 @@ fn word_end(text: &[u8], at: usize) -> usize
 
 // The next word's rank, and where the reader is behind it; the table's length, and where it is, if the table has it not.
 pub fn match_rank(text: &[u8], p: Parsed, table: &[&[u8]]) -> Ranked
-    ensures { (result.r ≡ rank_p (words_of table.now) text.now p) × (result.p ≡ ranked_p (words_of table.now) text.now p) }
+    ensures { (result.r ≡ rank_p (keywords_of table.now) text.now p) × (result.p ≡ ranked_p (keywords_of table.now) text.now p) }
 {
     match p {
         Ok(c) => {
@@ -87,7 +87,7 @@ pub fn match_rank(text: &[u8], p: Parsed, table: &[&[u8]]) -> Ranked
 
 // White space, and one keyword of a table, if any stands there.
 pub fn skip_one(text: &[u8], p: Parsed, table: &[&[u8]]) -> Parsed
-    ensures { Gives (skip_one (words_of table.now)) tt text.now p result }
+    ensures { Gives (skip_one (keywords_of table.now)) tt text.now p result }
 {
     let q = eat_ws(text, p);
     match_rank(text, q, table).p
@@ -95,7 +95,7 @@ pub fn skip_one(text: &[u8], p: Parsed, table: &[&[u8]]) -> Parsed
 
 // White space and keywords of a table, as many as stand there.
 pub fn skip_all(text: &[u8], p: Parsed, table: &[&[u8]]) -> Parsed
-    ensures { Gives (skip_all turns (words_of table.now)) tt text.now p result }
+    ensures { Gives (skip_all turns (keywords_of table.now)) tt text.now p result }
 {
     let mut q = p;
     for _left in (0..records::TURNS).rev() {

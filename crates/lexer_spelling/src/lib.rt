@@ -3,7 +3,7 @@
 
 ghost use Rattle.std.specs.Prelude.{◌≡◌, true, false};
 ghost use Rattle.grammar.specs.Lexer.{same_word, rank, spelled, same_name};
-ghost use Rattle.lexer.specs.Table.{words_of};
+ghost use Rattle.lexer.specs.Table.{keywords_of};
 ghost use Rattle.lexer_names.specs.Names.{part, is_quoted, inner, raw_word, spelled_of, EscapeAt, LetterAt};
 
 use lexer::class;
@@ -107,14 +107,14 @@ pub fn spells(text: &[u8], from: usize, to: usize, kw: &[u8]) -> bool
 
 // The rank in a table of a word that stood between quotes.
 fn rank_quoted(w: &[u8], table: &[&[u8]]) -> usize
-    ensures { result ≡ rank (spelled_of true w.now) (words_of table.now) }
+    ensures { result ≡ rank (spelled_of true w.now) (keywords_of table.now) }
 {
     rank_by(table, |word| same_spelling(w, true, word, false))
 }
 
 // The rank in a table of the word that stands from a place to another, by its spelling.
 pub fn spelled_rank(text: &[u8], from: usize, to: usize, table: &[&[u8]]) -> usize
-    ensures { result ≡ rank (spelled (raw_word (part text.now from to))) (words_of table.now) }
+    ensures { result ≡ rank (spelled (raw_word (part text.now from to))) (keywords_of table.now) }
 {
     let raw = part(text, from, to);
     if is_quoted(raw) {

@@ -96,7 +96,7 @@ pub fn parse_block(text: &[u8], words: &mut [u64], counter: u64) -> Result<Piece
     requires { length text.now ≤ 16777216 }
     ensures { BlockIs (block_at counter text.now) result words.new × (length words.new ≡ length words.old) }
 {
-    let p = Parsed::Ok(Cursor { at: 0, w: 0 });
+    let p = Ok(Cursor { at: 0, w: 0 });
     let r = node_words::push(words, p, 0);
     let r1 = node_words::push(words, r, 0);
     let b = parse_body(text, words, r1, counter);

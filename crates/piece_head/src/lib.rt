@@ -148,7 +148,7 @@ pub fn parse_head(text: &[u8], words: &mut [u64]) -> Result<Piece, Refusal>
     requires { length text.now ≤ 16777216 }
     ensures { HeadIs (head_at text.now) result words.new × (length words.new ≡ length words.old) }
 {
-    let p = Parsed::Ok(Cursor { at: 0, w: 0 });
+    let p = Ok(Cursor { at: 0, w: 0 });
     let h = head_node(text, words, p);
     let q = h.p;
     piece_close::piece_of(q, h.c)

@@ -7,7 +7,7 @@ ghost use Rattle.program.specs.Prog.{ret};
 ghost use Rattle.records.specs.Words.{node};
 ghost use Rattle.records.specs.Limits.{turns};
 ghost use Rattle.grammar.specs.Values.{cstring, leaf_values, parse_gep_flags};
-ghost use Rattle.lexer.specs.Table.{words_of};
+ghost use Rattle.lexer.specs.Table.{keywords_of};
 ghost use Rattle.lexer.specs.Step.{word_p};
 ghost use Rattle.lexer.specs.Reads.{Leads, Reads, Gives, made, same};
 ghost use Rattle.value_leaves.specs.Leaf.{Tried, key_values, Op, FlagStep};
@@ -40,7 +40,7 @@ pub static BIN_OPS: [&[u8]; 13] = [
 // An operator of a table.
 pub fn match_op(text: &[u8], p: Parsed, table: &[&[u8]]) -> Oper
     requires { length table.now ≤ 256 }
-    ensures { Op (words_of table.now) text.now p result.p result.rank }
+    ensures { Op (keywords_of table.now) text.now p result.p result.rank }
 {
     let k = lexer_keywords::match_rank(text, p, table);
     if k.r < table.len() {

@@ -12,13 +12,7 @@ use value_leaves::{BIN_OPS, CONV_OPS};
 
 // Typed values behind commas, through the closing byte, behind the opening one (`parse_array_const`, `parse_struct_const`).
 #[cycle(value_readers)]
-fn pair_list(
-    text: &[u8],
-    words: &mut [u64],
-    p: Parsed,
-    end: u8,
-    depth: usize,
-) -> Listed
+fn pair_list(text: &[u8], words: &mut [u64], p: Parsed, end: u8, depth: usize) -> Listed
     ensures { Leads (pair_list end (parse_type depth) (parse_value depth)) 0 [] (made (listed result.n 0) text.now p) text.now p p words.old result.p words.new }
 {
     let mut q = lexer::eat_ws(text, p);
@@ -47,14 +41,7 @@ fn pair_list(
 
 // `[..]` and `{..}`, behind the opening byte.
 #[cycle(value_readers)]
-fn aggregate(
-    text: &[u8],
-    words: &mut [u64],
-    p: Parsed,
-    kind: u8,
-    end: u8,
-    depth: usize,
-) -> Parsed
+fn aggregate(text: &[u8], words: &mut [u64], p: Parsed, kind: u8, end: u8, depth: usize) -> Parsed
     ensures { Leads (aggregate kind end (parse_type depth) (parse_value depth)) 1 [] (made same text.now p) text.now p p words.old result words.new }
 {
     let q = node_words::push(words, p, 0);
@@ -65,13 +52,7 @@ fn aggregate(
 
 // `<{..}>`, behind the `<` that stands at `at`.
 #[cycle(value_readers)]
-fn packed_const(
-    text: &[u8],
-    words: &mut [u64],
-    p: Parsed,
-    at: usize,
-    depth: usize,
-) -> Parsed
+fn packed_const(text: &[u8], words: &mut [u64], p: Parsed, at: usize, depth: usize) -> Parsed
     ensures { Leads (packed_const at (parse_type depth) (parse_value depth)) 1 [] (made same text.now p) text.now p p words.old result words.new }
 {
     if lexer::looks(text, p, b'{') {
@@ -87,12 +68,7 @@ fn packed_const(
 
 // The indices of a constant getelementptr, from before the comma through the `)`.
 #[cycle(value_readers)]
-fn gep_indices(
-    text: &[u8],
-    words: &mut [u64],
-    p: Parsed,
-    depth: usize,
-) -> Listed
+fn gep_indices(text: &[u8], words: &mut [u64], p: Parsed, depth: usize) -> Listed
     ensures { Leads (gep_indices 65536 (parse_type depth) (parse_value depth) 3 []) 0 [] (made (listed result.n 0) text.now p) text.now p p words.old result.p words.new }
 {
     let mut q = p;
@@ -100,11 +76,7 @@ fn gep_indices(
     for _left in (0..records::LIST_TURNS).rev() {
         let e = lexer::comma_or(text, q, b')');
         if !e.more {
-            return Listed {
-                p: e.p,
-                n,
-                dots: 0,
-            };
+            return Listed { p: e.p, n, dots: 0 };
         }
         let q2 = lexer::skip_keyword(text, e.p, b"inrange");
         let x = pair_child(text, words, q2, n, depth);
@@ -117,12 +89,7 @@ fn gep_indices(
 
 // A constant getelementptr, behind the word (`parse_ce_gep`).
 #[cycle(value_readers)]
-fn parse_ce_gep(
-    text: &[u8],
-    words: &mut [u64],
-    p: Parsed,
-    depth: usize,
-) -> Parsed
+fn parse_ce_gep(text: &[u8], words: &mut [u64], p: Parsed, depth: usize) -> Parsed
     ensures { Leads (parse_ce_gep (parse_type depth) (parse_value depth)) 1 [] (made same text.now p) text.now p p words.old result words.new }
 {
     let f = value_leaves::parse_gep_flags(text, p);
@@ -139,13 +106,7 @@ fn parse_ce_gep(
 
 // A conversion of a constant, behind the word (`parse_ce_conv_body`).
 #[cycle(value_readers)]
-fn parse_ce_conv(
-    text: &[u8],
-    words: &mut [u64],
-    p: Parsed,
-    op: u8,
-    depth: usize,
-) -> Parsed
+fn parse_ce_conv(text: &[u8], words: &mut [u64], p: Parsed, op: u8, depth: usize) -> Parsed
     ensures { Leads (parse_ce_conv op (parse_type depth) (parse_value depth)) 1 [] (made same text.now p) text.now p p words.old result words.new }
 {
     let q = node_words::push(words, p, 0);
@@ -159,13 +120,7 @@ fn parse_ce_conv(
 
 // An operation on two constants, behind the word.
 #[cycle(value_readers)]
-fn parse_ce_bin(
-    text: &[u8],
-    words: &mut [u64],
-    p: Parsed,
-    op: u8,
-    depth: usize,
-) -> Parsed
+fn parse_ce_bin(text: &[u8], words: &mut [u64], p: Parsed, op: u8, depth: usize) -> Parsed
     ensures { Leads (parse_ce_bin op (parse_type depth) (parse_value depth)) 1 [] (made same text.now p) text.now p p words.old result words.new }
 {
     let q = node_words::push(words, p, 0);
@@ -180,12 +135,7 @@ fn parse_ce_bin(
 
 // Constant expressions, or 6.
 #[cycle(value_readers)]
-fn const_exprs(
-    text: &[u8],
-    words: &mut [u64],
-    p: Parsed,
-    depth: usize,
-) -> Parsed
+fn const_exprs(text: &[u8], words: &mut [u64], p: Parsed, depth: usize) -> Parsed
     ensures { Reads (const_exprs (parse_type depth) (parse_value depth)) text.now p words.old result words.new }
 {
     if lexer::word(text, p, b"getelementptr") {
@@ -205,12 +155,7 @@ fn const_exprs(
 
 // A value (`parse_value`).
 #[cycle(value_readers)]
-pub fn parse_value(
-    text: &[u8],
-    words: &mut [u64],
-    p: Parsed,
-    depth: usize,
-) -> Parsed
+pub fn parse_value(text: &[u8], words: &mut [u64], p: Parsed, depth: usize) -> Parsed
     ensures { Reads (parse_value depth) text.now p words.old result words.new }
 {
     let q = lexer::eat_ws(text, p);
@@ -222,25 +167,11 @@ pub fn parse_value(
     }
     if lexer::looks(text, q, b'[') {
         let q1 = lexer::pass(text, q, 1);
-        return aggregate(
-            text,
-            words,
-            q1,
-            records::K_ARRAY_CONST,
-            b']',
-            depth - 1,
-        );
+        return aggregate(text, words, q1, records::K_ARRAY_CONST, b']', depth - 1);
     }
     if lexer::looks(text, q, b'{') {
         let q1 = lexer::pass(text, q, 1);
-        return aggregate(
-            text,
-            words,
-            q1,
-            records::K_STRUCT_CONST,
-            b'}',
-            depth - 1,
-        );
+        return aggregate(text, words, q1, records::K_STRUCT_CONST, b'}', depth - 1);
     }
     if lexer::looks(text, q, b'<') {
         let at = lexer::place(q);
@@ -259,13 +190,7 @@ pub struct Pair {
 
 // A type and a value as the next children of a list, which has n so far.
 #[cycle(value_readers)]
-pub fn pair_child(
-    text: &[u8],
-    words: &mut [u64],
-    p: Parsed,
-    n: u16,
-    depth: usize,
-) -> Pair
+pub fn pair_child(text: &[u8], words: &mut [u64], p: Parsed, n: u16, depth: usize) -> Pair
     ensures { Reads (pair_child (parse_type depth) (parse_value depth) n) text.now p words.old result.p words.new × Counts result.p result.n (n + 2) }
 {
     if depth == 0 {
@@ -284,12 +209,7 @@ pub fn pair_child(
 
 // A type and a value (`parse_typed_val`).
 #[cycle(value_readers)]
-pub fn parse_typed_val(
-    text: &[u8],
-    words: &mut [u64],
-    p: Parsed,
-    depth: usize,
-) -> Parsed
+pub fn parse_typed_val(text: &[u8], words: &mut [u64], p: Parsed, depth: usize) -> Parsed
     ensures { Reads (parse_typed_val depth) text.now p words.old result words.new }
 {
     if depth == 0 {

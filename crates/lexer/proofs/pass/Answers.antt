@@ -1,5 +1,5 @@
 -- The two tests are those of `passed`.
-use borrow.Author.Tests.{le-leb, lt-leb}
+use borrow.Author.Tests.{le-leb}
 use Rattle.lexer.proofs.pass.Goals as goal
 
 pub returns-then-m-text : goal.returns-then-m-text

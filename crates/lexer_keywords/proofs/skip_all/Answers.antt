@@ -1,6 +1,6 @@
 use native.Mathlib.Omega.{arith}
 use Rattle.grammar.specs.Lexer.{skip_all}
-use Rattle.lexer.specs.Table.{words_of}
+use Rattle.lexer.specs.Table.{keywords_of}
 use Rattle.lexer.proofs.Laws.{g_then, g_done, g_stay, g_on, g_more, g_no_more}
 use Rattle.lexer_keywords.proofs.Ranks.{g_rank_yes, g_rank_no, words_length}
 use Rattle.lexer_keywords.proofs.skip_all.Goals as goal
@@ -13,7 +13,7 @@ unfolding skip_all
 returns-then-table-k c =
     g_on c.loop-left.invariant
     (g_more (λ u. skip_all u
-    (words_of c.args.table.now)) c.loop-left._left c.loop-left-test.true
+    (keywords_of c.args.table.now)) c.loop-left._left c.loop-left-test.true
     (g_then _ c.eat_ws.ensures
     (g_rank_no _ _ _ c.match_rank-k.ensures (omega
     (arith, words_length c.args.table.now)) g_done)))
@@ -23,7 +23,7 @@ unfolding skip_all
 loop-left-preserved c =
     g_on c.loop-left.invariant
     (g_more (λ u. skip_all u
-    (words_of c.args.table.now)) c.loop-left._left c.loop-left-test.true
+    (keywords_of c.args.table.now)) c.loop-left._left c.loop-left-test.true
     (g_then _ c.eat_ws.ensures
     (g_rank_yes _ _ _ c.match_rank-k.ensures (omega
     (arith, words_length c.args.table.now)) g_stay)))
@@ -33,4 +33,4 @@ unfolding skip_all
 returns c =
     g_on c.loop-left.invariant
     (g_no_more (λ u. skip_all u
-    (words_of c.args.table.now)) c.loop-left._left c.loop-left-test.false g_done)
+    (keywords_of c.args.table.now)) c.loop-left._left c.loop-left-test.false g_done)

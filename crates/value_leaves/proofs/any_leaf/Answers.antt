@@ -1,7 +1,7 @@
 -- The tests of `leaf_values` in their order, each call's answer going on to the next test where it is no hit.
 use mathlib.Core.Path.{sym, ◌∙◌}
 use native.Mathlib.Omega.{arith}
-use Rattle.lexer.proofs.Laws.{true_false, byte_yes, byte_no, call}
+use Rattle.lexer.proofs.Laws.{byte_yes, byte_no, call}
 use Rattle.grammar.specs.Values.{leaf_values}
 use Rattle.lexer.proofs.TestLaws.{prefix_yes, prefix_no}
 use Rattle.value_leaves.specs.Leaf.{key_values}
@@ -55,9 +55,11 @@ returns-then-starts c =
 pub returns : goal.returns
 unfolding leaf_values key_values
 returns c =
-    record { on = λ g r. byte_no _ _ c.looks.ensures c.if-looks.false
+    record {
+      on = λ g r. byte_no _ _ c.looks.ensures c.if-looks.false
           (byte_no _ _ c.looks-2.ensures c.if-looks-2.false
           (c.in_default.ensures.on _
           (c.in_default-key_value.ensures.on _
           (word_at_no _ _ c.word.ensures c.if-word.false
-          (prefix_no _ _ c.starts.ensures c.if-starts.false r))))) }
+          (prefix_no _ _ c.starts.ensures c.if-starts.false r)))));
+    }

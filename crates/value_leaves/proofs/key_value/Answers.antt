@@ -1,9 +1,9 @@
 -- Two words do not stand at one place, so the word that is found answers the definition's other tests with no, in whatever order they come.
-use mathlib.Core.Path.{refl, sym}
+use mathlib.Core.Path.{refl}
 use native.Mathlib.Omega.{arith}
 use Rattle.program.specs.Bytes.{bytes}
 use Rattle.grammar.specs.Lexer.{same_word}
-use Rattle.lexer.proofs.Laws.{true_false, word_yes, word_no, call}
+use Rattle.lexer.proofs.Laws.{word_yes, word_no, call}
 use Rattle.type_leaves.proofs.LeafLaws.{word_alone}
 use Rattle.value_leaves.specs.Leaf.{key_values}
 use Rattle.value_leaves.proofs.key_value.Goals as goal

@@ -1,4 +1,4 @@
--- The state in which the automaton stops says which: the quote, the text's end, or an escape that is words_of off or bad.
+-- The state in which the automaton stops says which: the quote, the text's end, or an escape that is cut off or bad.
 use native.Mathlib.Omega.{arith}
 use mathlib.Core.Path.{sym, ◌∙◌}
 use Rattle.grammar.specs.Lexer.{cstring_step}

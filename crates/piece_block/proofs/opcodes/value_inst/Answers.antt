@@ -1,4 +1,4 @@
--- The rank says which way `value_at` goes, the code's tests words_of the ranks into the same ways, and the opcode's bytes pay for the words before the
+-- The rank says which way `value_at` goes, the code's tests cut the ranks into the same ways, and the opcode's bytes pay for the words before the
 -- operands.
 use mathlib.Core.Path.{◌≡◌, ap}
 use native.Mathlib.Omega.{arith}

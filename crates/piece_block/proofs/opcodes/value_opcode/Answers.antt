@@ -1,4 +1,4 @@
--- The tables' words, words_of by their lengths, are those of the definition, and a rank among so few fits a byte.
+-- The table's words are those of the definition, and a rank among so few fits a byte.
 use mathlib.Core.Path.{◌∙◌}
 use lib.Dec.{lit<}
 use Rattle.grammar.specs.Instructions.{fbin_ops, inst_conv_ops, tail_words}
