@@ -57,15 +57,9 @@ pub alloca_none : (dest : ℕ) (n : Bool) (d : ℕ) (t ws al : List ℕ) {c : �
 unfolding alloca_node counted
 alloca_none dest n d t ws al {c} {text} {p0} {p} {q} {w} {w'} e f h = rw (e, ← f) (close_is 41 d 1 (dest ∷ (al ++ t)) h)
 
-pub alloca_some : (dest : ℕ) (n : Bool) (d d1 : ℕ) (t ws al : List ℕ) {c : ℕ} {text : List ℕ} {p0 p q : Parsed} {w w' : List ℕ} → n ≡ true → d ≡ length al * 2 → d1 ≡ 1 + d → (q ≡ p) × (w' ≡ closes 41 d1 3 p0 p w) → Leads (ret (alloca_node dest t (clauses (counted n ws) al))) c (0 ∷ dest ∷ ((al ++ t) ++ ws)) (made same text p0) text p0 p w q w'
+pub alloca_some : (dest : ℕ) (n : Bool) (d : ℕ) (t ws al : List ℕ) {c : ℕ} {text : List ℕ} {p0 p q : Parsed} {w w' : List ℕ} → n ≡ true → d ≡ length al * 2 → (q ≡ p) × (w' ≡ closes 41 (1 + d) 3 p0 p w) → Leads (ret (alloca_node dest t (clauses (counted n ws) al))) c (0 ∷ dest ∷ ((al ++ t) ++ ws)) (made same text p0) text p0 p w q w'
 unfolding alloca_node
-alloca_some dest n d d1 t ws al {c} {text} {p0} {p} {q} {w} {w'} e f g h = rw (counted_some n ws e, ← f, ← g) (close_is 41 d1 3 (dest ∷ ((al ++ t) ++ ws)) h)
-
--- the bit of an alignment is 0 or 2
-pub bit_is : (al : Found ℕ) (d : ℕ) → d ≡ length (align_of al) * 2 → {d1 : ℕ} → (d ≡ 0 → d1 ≡ 1) × (d ≡ 2 → d1 ≡ 3) → d1 ≡ 1 + d
-unfolding align_of
-bit_is None d e h = h.0 e ∙ rw e
-bit_is (Some v) d e h = h.1 e ∙ rw e
+alloca_some dest n d t ws al {c} {text} {p0} {p} {q} {w} {w'} e f h = rw (counted_some n ws e, ← f) (close_is 41 (1 + d) 3 (dest ∷ ((al ++ t) ++ ws)) h)
 
 -- refusals are handed on
 pub joined_out : (p q : Parsed) {r : Parsed} → r ≡ joined p q → (e x : ℕ) → p ≡ Refused e x → r ≡ Refused e x

@@ -1,7 +1,7 @@
 -- The type and the rest are read without being written first, so that the alignment can stand before them; read again from the same places they
 -- are the same, and the count is written where there is one.
 use Rattle.inst_operands.specs.Trailing.{align_of}
-use Rattle.inst_memory.proofs.AllocaLaws.{align_then, joined_out, align_out, shows_count, alloca_none, alloca_some, bit_is}
+use Rattle.inst_memory.proofs.AllocaLaws.{align_then, joined_out, align_out, shows_count, alloca_none, alloca_some}
 use Rattle.inst_operands.proofs.Twice.{found_on, dry_type, dry_then, shows_typed, resume_out, again_then}
 use Rattle.inst_operands.specs.Found.{type_of}
 use Rattle.inst_operands.proofs.OperandLaws.{stuck_paren}
@@ -20,7 +20,7 @@ pub returns-then-looks : goal.returns-then-looks
 unfolding parse_alloca no_paren
 returns-then-looks c =
     begin_then _ c.begin-q.ensures
-    (val _ c.skip_inalloca-p1.ensures
+    (val _ c.skip_keyword-p1.ensures
     (dry_type 8 _ c.pass_type-q1.ensures.reads (stuck_paren _) c.join-p2.ensures
     (λ a F. byte_at_yes _ _ c.looks.ensures c.if-looks.true (fail_is _ c.refuse.ensures))))
 
@@ -32,7 +32,7 @@ pub returns-then-not-s : goal.returns-then-not-s
 unfolding parse_alloca no_paren
 returns-then-not-s c =
     begin_then _ c.begin-q.ensures
-    (val _ c.skip_inalloca-p1.ensures
+    (val _ c.skip_keyword-p1.ensures
     (dry_type 8 _ c.pass_type-q1.ensures.reads (stuck_paren _) c.join-p2.ensures
     (λ a F. byte_at_no _ _ c.looks.ensures c.if-looks.false
     (dry_then _ c.pass_rest-s.ensures.reads c.join-q3.ensures
@@ -50,7 +50,7 @@ pub returns : goal.returns
 unfolding parse_alloca no_paren
 returns c =
     begin_then _ c.begin-q.ensures
-    (val _ c.skip_inalloca-p1.ensures
+    (val _ c.skip_keyword-p1.ensures
     (dry_type 8 _ c.pass_type-q1.ensures.reads (stuck_paren _) c.join-p2.ensures
     (λ a F. byte_at_no _ _ c.looks.ensures c.if-looks.false
     (dry_then _ c.pass_rest-s.ensures.reads c.join-q3.ensures
@@ -60,4 +60,4 @@ returns c =
     (again_then (found_on (found_on G (align_out _ _ _ c.push_align-q4.ensures))
     (resume_out c.parse_type-z1.result c.push_align-q4.result c.resume-q5.ensures)) (shows_count c.pass_rest-s.result.counted c.alloca_rest-s2.result.counted ws (align_of c.pass_rest-s.result.align) (align_of c.alloca_rest-s2.result.align) (not-false _ c.if-not-s.false)) c.resume-z2.ensures c.alloca_rest-s2.ensures c.resume-q6.ensures
     (enrich
-    (alloca_some _ _ _ _ _ ws _ (not-false _ c.if-not-s.false) c.align_bit-d.ensures (bit_is c.pass_rest-s.result.align c.align_bit-d.result c.align_bit-d.ensures c.one_bit-d1.ensures) c.close-2.ensures))))))))))
+    (alloca_some _ _ _ _ ws _ (not-false _ c.if-not-s.false) c.align_bit-d.ensures c.close-2.ensures))))))))))
