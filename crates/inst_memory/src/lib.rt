@@ -225,8 +225,7 @@ pub fn parse_extractvalue(text: &[u8], words: &mut [u64], p: Parsed, dest: u64) 
     q = lexer::expect_token(text, q, b',');
     q = lexer::eat_ws(text, q);
     let n = number_counts::parse_int(text, q, 0, records::INDEX_LIMIT);
-    q = n.p;
-    q = node_words::patch(words, p, q, 2, n.v);
+    q = node_words::patch(words, p, n.p, 2, n.v);
     inst_operands::end(
         text,
         words,
@@ -387,11 +386,9 @@ pub fn parse_gep_inst(text: &[u8], words: &mut [u64], p: Parsed, dest: u64) -> P
 {
     let q = node_words::begin(words, p, dest);
     let f = value_leaves::parse_gep_flags(text, q);
-    let q1 = f.p;
-    let q2 = types::parse_type(text, words, q1, records::DEPTH_LIMIT);
-    let q3 = lexer::expect_token(text, q2, b',');
-    let q4 = inst_operands::parse_operand(text, words, q3);
-    let l = gep_inst_indices(text, words, q4);
-    let q5 = l.p;
-    node_words::close(words, p, q5, records::K_GEP, f.v, l.n)
+    let q1 = types::parse_type(text, words, f.p, records::DEPTH_LIMIT);
+    let q2 = lexer::expect_token(text, q1, b',');
+    let q3 = inst_operands::parse_operand(text, words, q2);
+    let l = gep_inst_indices(text, words, q3);
+    node_words::close(words, p, l.p, records::K_GEP, f.v, l.n)
 }

@@ -155,8 +155,7 @@ fn phi_items(text: &[u8], words: &mut [u64], p: Parsed) -> Listed
         let k = types::one_more(n);
         q = lexer::expect_token(text, q, b',');
         let l = lexer_names::parse_local_name(text, q);
-        q = l.p;
-        q = lexer::count_child(q, k);
+        q = lexer::count_child(l.p, k);
         n = types::one_more(k);
         q = lexer::expect_token(text, q, b']');
         q = inst_operands::label_node(words, q, l.v);
@@ -178,8 +177,7 @@ pub fn parse_phi(text: &[u8], words: &mut [u64], p: Parsed, dest: u64) -> Parsed
     let q = node_words::begin(words, p, dest);
     let q1 = types::parse_type(text, words, q, records::DEPTH_LIMIT);
     let l = phi_items(text, words, q1);
-    let q2 = l.p;
-    node_words::close(words, p, q2, records::K_PHI, records::D_NONE, l.n)
+    node_words::close(words, p, l.p, records::K_PHI, records::D_NONE, l.n)
 }
 
 // `freeze T V`
