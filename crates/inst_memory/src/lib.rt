@@ -17,7 +17,7 @@ ghost use Rattle.grammar.specs.Types.{listed};
 ghost use Rattle.std.proofs.Math.Option.{none};
 ghost use Rattle.inst_operands.specs.Rich.{richly};
 ghost use Rattle.inst_operands.specs.Dry.{Dry};
-ghost use Rattle.inst_memory.specs.Alloca.{counting, counted, aligned_p, aligns};
+ghost use Rattle.inst_memory.specs.Alloca.{counting, counted, aligned_p, aligns, RestIs};
 
 use lexer::{Cursor, Parsed};
 use records::Refusal;
@@ -246,17 +246,17 @@ pub fn parse_fence(text: &[u8], words: &mut [u64], p: Parsed) -> Parsed
     inst_operands::end(text, words, p, q, records::K_FENCE, records::D_NONE, 0)
 }
 
-// What stands behind an alloca's type: whether there is a count, and the last alignment.
+// Where the reader is behind what stands behind an alloca's type, whether there is a count, and the last alignment.
 #[derive(Clone, Copy)]
 struct Rest {
-    p: Parsed,
+    c: Cursor,
     counted: bool,
     align: Option<u64>,
 }
 
 // The last count, written, and the last alignment.
-fn alloca_rest(text: &[u8], words: &mut [u64], p: Parsed) -> Rest
-    ensures { Leads (counting 16777217 none []) 0 [] (made (λ ws. clauses (counted result.counted ws) (align_of result.align)) text.now p) text.now p p words.old result.p words.new }
+fn alloca_rest(text: &[u8], words: &mut [u64], p: Parsed) -> Result<Rest, Refusal>
+    ensures { RestIs result (λ n al q. Leads (counting 16777217 none []) 0 [] (made (λ ws. clauses (counted n ws) al) text.now p) text.now p p words.old q words.new) }
 {
     let mut q = p;
     let mut counted = false;
@@ -283,23 +283,17 @@ fn alloca_rest(text: &[u8], words: &mut [u64], p: Parsed) -> Rest
                 }
             }
         } else {
-            return Rest {
-                p: q,
-                counted,
-                align,
-            };
+            let c = q?;
+            return Ok(Rest { c, counted, align });
         }
     }
-    Rest {
-        p: q,
-        counted,
-        align,
-    }
+    let c = q?;
+    Ok(Rest { c, counted, align })
 }
 
 // The same, not written.
-fn pass_rest(text: &[u8], p: Parsed) -> Rest
-    ensures { Dry (counting 16777217 none []) (made (λ ws. clauses (counted result.counted ws) (align_of result.align)) text.now p) text.now p result.p }
+fn pass_rest(text: &[u8], p: Parsed) -> Result<Rest, Refusal>
+    ensures { RestIs result (λ n al q. Dry (counting 16777217 none []) (made (λ ws. clauses (counted n ws) al) text.now p) text.now p q) }
 {
     let mut none: [u64; 0] = [];
     alloca_rest(text, &mut none, p)
@@ -336,9 +330,8 @@ pub fn parse_alloca(text: &[u8], words: &mut [u64], p: Parsed, dest: u64) -> Par
     if lexer::looks(text, p2, b'(') {
         return lexer::refuse(p2, records::Q_STATEMENT);
     }
-    let s = pass_rest(text, p2);
-    let q2 = s.p;
-    let q3 = node_words::join(p2, q2);
+    let s = pass_rest(text, p2)?;
+    let q3 = node_words::join(p2, Ok(s.c));
     let q4 = push_align(words, q3, s.align);
     let z = inst_operands::resume(q4, p1);
     let z1 = types::parse_type(text, words, z, records::DEPTH_LIMIT);
@@ -348,9 +341,8 @@ pub fn parse_alloca(text: &[u8], words: &mut [u64], p: Parsed, dest: u64) -> Par
         return node_words::close(words, p, q5, records::K_ALLOCA, d, 1);
     }
     let z2 = inst_operands::resume(q5, p2);
-    let s2 = alloca_rest(text, words, z2);
-    let z3 = s2.p;
-    let q6 = inst_operands::resume(z3, q5);
+    let s2 = alloca_rest(text, words, z2)?;
+    let q6 = inst_operands::resume(Ok(s2.c), q5);
     node_words::close(words, p, q6, records::K_ALLOCA, records::D_COUNT + d, 3)
 }
 
