@@ -84,6 +84,7 @@ fn call_rest(text: &[u8], words: &mut [u64], p0: Parsed, p: Parsed, d: u8, n: u1
 }
 
 // The n words from `from` on stand from `to` on too, where that is not before them; as far as the array reaches.
+// One after the other, as `copied` says it: where the two parts overlap `copy_within` would give other words.
 fn copy(words: &mut [u64], from: usize, to: usize, n: usize)
     ensures { from ≤ to → words.new ≡ copied n from to words.old }
 {
