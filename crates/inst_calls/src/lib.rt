@@ -53,8 +53,7 @@ fn parse_arg_list(text: &[u8], words: &mut [u64], p: Parsed, n: u16) -> Listed
             };
         }
         let x = arg_item(text, words, q, m);
-        q = x.p;
-        let e = lexer::comma_or(text, q, b')');
+        let e = lexer::comma_or(text, x.p, b')');
         m = x.n;
         q = e.p;
         if !e.more {
@@ -80,12 +79,12 @@ fn call_rest(text: &[u8], words: &mut [u64], p0: Parsed, p: Parsed, d: u8, n: u1
     let q = values::parse_value(text, words, p, records::DEPTH_LIMIT);
     let q1 = lexer::expect_token(text, q, b'(');
     let l = parse_arg_list(text, words, q1, n);
-    let q2 = l.p;
-    let q3 = attributes::skip_attrs(text, q2);
-    inst_operands::end(text, words, p0, q3, records::K_CALL, d, l.n)
+    let q2 = attributes::skip_attrs(text, l.p);
+    inst_operands::end(text, words, p0, q2, records::K_CALL, d, l.n)
 }
 
 // The n words from `from` on stand from `to` on too, where that is not before them; as far as the array reaches.
+// One after the other, as `copied` says it: where the two parts overlap `copy_within` would give other words.
 fn copy(words: &mut [u64], from: usize, to: usize, n: usize)
     ensures { from ≤ to → words.new ≡ copied n from to words.old }
 {
@@ -124,11 +123,10 @@ fn func_type(text: &[u8], words: &mut [u64], p: Parsed, s: Parsed) -> Parsed
     let q = node_words::push(words, p, 0);
     let q1 = again(words, s, p, q);
     let l = types::parse_type_list(text, words, q1, records::LIST_DEPTH);
-    let q2 = l.p;
-    node_words::close(words, p, q2, records::K_FUNC, l.dots, l.n)
+    node_words::close(words, p, l.p, records::K_FUNC, l.dots, l.n)
 }
 
-// Where the reader is behind a call, and whether it is void, if it has no destination.
+// Where the reader is behind a call, and whether it is void, if it has no destination: its type tells that, whatever is refused behind it.
 #[derive(Clone, Copy)]
 struct Called {
     p: Parsed,
@@ -183,8 +181,7 @@ fn call_node(text: &[u8], words: &mut [u64], p: Parsed, dest: u64) -> Called
 pub fn parse_call(text: &[u8], words: &mut [u64], p: Parsed, dest: u64) -> Parsed
     ensures { Leads (parse_call dest) 3 [] (richly text.now (made same text.now p)) text.now p p words.old result words.new }
 {
-    let r = call_node(text, words, p, dest);
-    r.p
+    call_node(text, words, p, dest).p
 }
 
 // `tail call` and its like, behind the first word.
@@ -200,12 +197,10 @@ pub fn parse_plain_call(text: &[u8], words: &mut [u64], p: Parsed, c: u64) -> Co
     ensures { Leads (parse_plain_call c) 3 [] (richly text.now (made (counted result.c) text.now p)) text.now p p words.old result.p words.new }
 {
     let r = call_node(text, words, p, 0);
-    let q = r.p;
     if r.void {
-        return Counter { p: q, c };
+        return Counter { p: r.p, c };
     }
-    let at = lexer::place(q);
-    piece_counter::take_next(q, at, c)
+    piece_counter::take_next(r.p, lexer::place(r.p), c)
 }
 
 // `tail call` and its like without a destination, behind the first word.

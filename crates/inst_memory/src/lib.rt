@@ -2,12 +2,11 @@
 // the cursor: a slot for the header, the destination, the operands; then the header.
 #![tactic(auto)]
 
-ghost use Rattle.std.specs.Prelude.{◌≡◌, [], ℕ, ◌+◌, ◌*◌, length};
-ghost use Rattle.program.specs.Bytes.{bytes};
-ghost use Rattle.grammar.specs.Lexer.{skip_keyword, rank, spelled};
+ghost use Rattle.std.specs.Prelude.{◌≡◌, [], ℕ, ◌*◌, length, MatchResult};
+ghost use Rattle.grammar.specs.Lexer.{rank, spelled};
 ghost use Rattle.grammar.specs.Instructions.{skip_atomic_ordering, load_operands, store_operands, access, parse_load, parse_store, gep_inst_indices, parse_gep_inst, pointer_then_value, parse_cmpxchg, rmw_ops, rmw_op, parse_atomicrmw, clauses, parse_alloca, parse_extractvalue, parse_fence};
-ghost use Rattle.records.specs.Details.{d_count, d_alloca_align};
-ghost use Rattle.lexer.specs.Step.{word_p};
+ghost use Rattle.records.specs.Details.{d_alloca_align};
+ghost use Rattle.lexer.specs.Parsed.{Ok, Err};
 ghost use Rattle.lexer_names.specs.Names.{part, raw_word};
 ghost use Rattle.lexer.specs.Reads.{Leads, Gives, made, same, Reads};
 ghost use Rattle.inst_operands.specs.Trailing.{align_of};
@@ -18,38 +17,11 @@ ghost use Rattle.grammar.specs.Types.{listed};
 ghost use Rattle.std.proofs.Math.Option.{none};
 ghost use Rattle.inst_operands.specs.Rich.{richly};
 ghost use Rattle.inst_operands.specs.Dry.{Dry};
-ghost use Rattle.inst_memory.specs.Alloca.{counting, counted, aligned_p, aligns};
+ghost use Rattle.inst_memory.specs.Alloca.{counting, counted, aligned_p, aligns, RestIs};
 
-use lexer::Parsed;
+use lexer::{Cursor, Parsed};
+use records::Refusal;
 use types::Listed;
-
-// Is `atomic` the next word?
-pub fn is_atomic(text: &[u8], p: Parsed) -> bool
-    ensures { result ≡ word_p text.now p (bytes "atomic") }
-{
-    lexer::word(text, p, b"atomic")
-}
-
-// `volatile`, if it stands there.
-pub fn skip_volatile(text: &[u8], p: Parsed) -> Parsed
-    ensures { Gives (skip_keyword (bytes "volatile")) tt text.now p result }
-{
-    lexer::skip_keyword(text, p, b"volatile")
-}
-
-// `weak`, if it stands there.
-pub fn skip_weak(text: &[u8], p: Parsed) -> Parsed
-    ensures { Gives (skip_keyword (bytes "weak")) tt text.now p result }
-{
-    lexer::skip_keyword(text, p, b"weak")
-}
-
-// `inalloca`, if it stands there.
-pub fn skip_inalloca(text: &[u8], p: Parsed) -> Parsed
-    ensures { Gives (skip_keyword (bytes "inalloca")) tt text.now p result }
-{
-    lexer::skip_keyword(text, p, b"inalloca")
-}
 
 // `syncscope(..)`, where it stands.
 fn opt_scope(text: &[u8], p: Parsed) -> Parsed
@@ -124,14 +96,14 @@ fn parse_access(text: &[u8], words: &mut [u64], p: Parsed, dest: u64, form: Form
 {
     let q = node_words::begin(words, p, dest);
     let q1 = lexer::eat_ws(text, q);
-    if is_atomic(text, q1) {
+    if lexer::word(text, q1, b"atomic") {
         let q2 = lexer::pass_word(text, q1, b"atomic");
-        let q3 = skip_volatile(text, q2);
+        let q3 = lexer::skip_keyword(text, q2, b"volatile");
         let q4 = access_operands(text, words, q3, form.store);
         let q5 = skip_atomic_ordering(text, q4);
         return inst_operands::end(text, words, p, q5, form.atomic, records::D_NONE, form.n);
     }
-    let p1 = skip_volatile(text, q1);
+    let p1 = lexer::skip_keyword(text, q1, b"volatile");
     let q6 = node_words::push(words, p1, 0);
     let q7 = access_operands(text, words, q6, form.store);
     let t = inst_operands::parse_trailing(text, q7);
@@ -194,21 +166,14 @@ pub fn parse_cmpxchg(text: &[u8], words: &mut [u64], p: Parsed, dest: u64) -> Pa
     ensures { Leads (parse_cmpxchg dest) 3 [] (richly text.now (made same text.now p)) text.now p p words.old result words.new }
 {
     let mut q = node_words::begin(words, p, dest);
-    q = skip_weak(text, q);
-    q = skip_volatile(text, q);
+    q = lexer::skip_keyword(text, q, b"weak");
+    q = lexer::skip_keyword(text, q, b"volatile");
     q = pointer_then_value(text, words, q);
     q = lexer::expect_token(text, q, b',');
     q = inst_operands::parse_operand(text, words, q);
     q = skip_atomic_ordering(text, q);
     q = skip_atomic_ordering(text, q);
     inst_operands::end(text, words, p, q, records::K_CMPXCHG, records::D_NONE, 4)
-}
-
-// An operation of `atomicrmw`, as its rank in ast.rs order.
-#[derive(Clone, Copy)]
-struct RmwOp {
-    p: Parsed,
-    r: u8,
 }
 
 // The operations of `atomicrmw`, in ast.rs order.
@@ -221,19 +186,21 @@ fn rmw_rank(text: &[u8], from: usize, to: usize) -> usize
     lexer_spelling::spelled_rank(text, from, to, &RMW_OPS)
 }
 
-// The operation's word, quoted or not; 9 behind any other.
-fn rmw_op(text: &[u8], p: Parsed) -> RmwOp
-    ensures { Gives rmw_op result.r text.now p result.p }
+// Behind the operation's word, quoted or not, and its rank; 9 behind any other.
+fn rmw_op(text: &[u8], p: Parsed) -> Result<(Cursor, u8), Refusal>
+    ensures { MatchResult result (λ x. Gives rmw_op x.1 text.now p (Ok x.0)) (λ e. (r : ℕ) → Gives rmw_op r text.now p (Err e)) }
 {
     let q = lexer::eat_ws(text, p);
     let x = lexer_names::read_word(text, q);
-    let q1 = x.p;
+    let c = x.p?;
     let r = rmw_rank(text, x.start, x.end);
     if r < RMW_OPS.len() {
-        return RmwOp { p: q1, r: r as u8 };
+        return Ok((c, r as u8));
     }
-    let q2 = lexer::refuse(q1, records::Q_OPCODE);
-    RmwOp { p: q2, r: 0 }
+    Err(Refusal {
+        question: records::Q_OPCODE,
+        place: c.at,
+    })
 }
 
 // `atomicrmw OP T V, T V ..`
@@ -241,12 +208,11 @@ pub fn parse_atomicrmw(text: &[u8], words: &mut [u64], p: Parsed, dest: u64) -> 
     ensures { Leads (parse_atomicrmw dest) 3 [] (richly text.now (made same text.now p)) text.now p p words.old result words.new }
 {
     let mut q = node_words::begin(words, p, dest);
-    q = skip_volatile(text, q);
-    let op = rmw_op(text, q);
-    q = op.p;
-    q = pointer_then_value(text, words, q);
+    q = lexer::skip_keyword(text, q, b"volatile");
+    let (c, op) = rmw_op(text, q)?;
+    q = pointer_then_value(text, words, Ok(c));
     q = skip_atomic_ordering(text, q);
-    inst_operands::end(text, words, p, q, records::K_ATOMIC_RMW, op.r, 3)
+    inst_operands::end(text, words, p, q, records::K_ATOMIC_RMW, op, 3)
 }
 
 // `extractvalue T V, N`: the number's slot is filled behind the operand.
@@ -259,8 +225,7 @@ pub fn parse_extractvalue(text: &[u8], words: &mut [u64], p: Parsed, dest: u64) 
     q = lexer::expect_token(text, q, b',');
     q = lexer::eat_ws(text, q);
     let n = number_counts::parse_int(text, q, 0, records::INDEX_LIMIT);
-    q = n.p;
-    q = node_words::patch(words, p, q, 2, n.v);
+    q = node_words::patch(words, p, n.p, 2, n.v);
     inst_operands::end(
         text,
         words,
@@ -281,17 +246,17 @@ pub fn parse_fence(text: &[u8], words: &mut [u64], p: Parsed) -> Parsed
     inst_operands::end(text, words, p, q, records::K_FENCE, records::D_NONE, 0)
 }
 
-// What stands behind an alloca's type: whether there is a count, and the last alignment.
+// Where the reader is behind what stands behind an alloca's type, whether there is a count, and the last alignment.
 #[derive(Clone, Copy)]
 struct Rest {
-    p: Parsed,
+    c: Cursor,
     counted: bool,
     align: Option<u64>,
 }
 
 // The last count, written, and the last alignment.
-fn alloca_rest(text: &[u8], words: &mut [u64], p: Parsed) -> Rest
-    ensures { Leads (counting 16777217 none []) 0 [] (made (λ ws. clauses (counted result.counted ws) (align_of result.align)) text.now p) text.now p p words.old result.p words.new }
+fn alloca_rest(text: &[u8], words: &mut [u64], p: Parsed) -> Result<Rest, Refusal>
+    ensures { RestIs result (λ n al q. Leads (counting 16777217 none []) 0 [] (made (λ ws. clauses (counted n ws) al) text.now p) text.now p p words.old q words.new) }
 {
     let mut q = p;
     let mut counted = false;
@@ -318,23 +283,17 @@ fn alloca_rest(text: &[u8], words: &mut [u64], p: Parsed) -> Rest
                 }
             }
         } else {
-            return Rest {
-                p: q,
-                counted,
-                align,
-            };
+            let c = q?;
+            return Ok(Rest { c, counted, align });
         }
     }
-    Rest {
-        p: q,
-        counted,
-        align,
-    }
+    let c = q?;
+    Ok(Rest { c, counted, align })
 }
 
 // The same, not written.
-fn pass_rest(text: &[u8], p: Parsed) -> Rest
-    ensures { Dry (counting 16777217 none []) (made (λ ws. clauses (counted result.counted ws) (align_of result.align)) text.now p) text.now p result.p }
+fn pass_rest(text: &[u8], p: Parsed) -> Result<Rest, Refusal>
+    ensures { RestIs result (λ n al q. Dry (counting 16777217 none []) (made (λ ws. clauses (counted n ws) al) text.now p) text.now p q) }
 {
     let mut none: [u64; 0] = [];
     alloca_rest(text, &mut none, p)
@@ -360,33 +319,19 @@ fn align_bit(align: Option<u64>) -> u8
     }
 }
 
-// An alloca's detail with a count and an alignment.
-const D_BOTH: u8 = records::D_COUNT + records::D_ALLOCA_ALIGN;
-
-// Detail bit 0 says that a count is there.
-fn one_bit(d: u8) -> u8
-    ensures { (d ≡ 0 → result ≡ d_count) × (d ≡ d_alloca_align → result ≡ d_count + d_alloca_align) }
-{
-    if d == 0 {
-        return records::D_COUNT;
-    }
-    D_BOTH
-}
-
 // `alloca T, T V, align N`
 pub fn parse_alloca(text: &[u8], words: &mut [u64], p: Parsed, dest: u64) -> Parsed
     ensures { Leads (parse_alloca dest) 3 [] (richly text.now (made same text.now p)) text.now p p words.old result words.new }
 {
     let q = node_words::begin(words, p, dest);
-    let p1 = skip_inalloca(text, q);
+    let p1 = lexer::skip_keyword(text, q, b"inalloca");
     let q1 = inst_operands::pass_type(text, p1);
     let p2 = node_words::join(p1, q1);
     if lexer::looks(text, p2, b'(') {
         return lexer::refuse(p2, records::Q_STATEMENT);
     }
-    let s = pass_rest(text, p2);
-    let q2 = s.p;
-    let q3 = node_words::join(p2, q2);
+    let s = pass_rest(text, p2)?;
+    let q3 = node_words::join(p2, Ok(s.c));
     let q4 = push_align(words, q3, s.align);
     let z = inst_operands::resume(q4, p1);
     let z1 = types::parse_type(text, words, z, records::DEPTH_LIMIT);
@@ -396,11 +341,9 @@ pub fn parse_alloca(text: &[u8], words: &mut [u64], p: Parsed, dest: u64) -> Par
         return node_words::close(words, p, q5, records::K_ALLOCA, d, 1);
     }
     let z2 = inst_operands::resume(q5, p2);
-    let s2 = alloca_rest(text, words, z2);
-    let z3 = s2.p;
-    let q6 = inst_operands::resume(z3, q5);
-    let d1 = one_bit(d);
-    node_words::close(words, p, q6, records::K_ALLOCA, d1, 3)
+    let s2 = alloca_rest(text, words, z2)?;
+    let q6 = inst_operands::resume(Ok(s2.c), q5);
+    node_words::close(words, p, q6, records::K_ALLOCA, records::D_COUNT + d, 3)
 }
 
 // The indices of a getelementptr and its metadata, from before the comma; base type and pointer are children before them.
@@ -435,11 +378,9 @@ pub fn parse_gep_inst(text: &[u8], words: &mut [u64], p: Parsed, dest: u64) -> P
 {
     let q = node_words::begin(words, p, dest);
     let f = value_leaves::parse_gep_flags(text, q);
-    let q1 = f.p;
-    let q2 = types::parse_type(text, words, q1, records::DEPTH_LIMIT);
-    let q3 = lexer::expect_token(text, q2, b',');
-    let q4 = inst_operands::parse_operand(text, words, q3);
-    let l = gep_inst_indices(text, words, q4);
-    let q5 = l.p;
-    node_words::close(words, p, q5, records::K_GEP, f.v, l.n)
+    let q1 = types::parse_type(text, words, f.p, records::DEPTH_LIMIT);
+    let q2 = lexer::expect_token(text, q1, b',');
+    let q3 = inst_operands::parse_operand(text, words, q2);
+    let l = gep_inst_indices(text, words, q3);
+    node_words::close(words, p, l.p, records::K_GEP, f.v, l.n)
 }

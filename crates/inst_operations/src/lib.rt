@@ -3,15 +3,15 @@
 // operands; then the header.
 #![tactic(auto)]
 
-ghost use Rattle.std.specs.Prelude.{◌≡◌, [], ◌∷◌, ℕ, ◌≤◌, length};
+ghost use Rattle.std.specs.Prelude.{◌≡◌, [], ◌∷◌, ℕ, ◌≤◌, length, MatchResult};
 ghost use Rattle.grammar.specs.Instructions.{two_operands, binary, unary, parse_bin, parse_fbin, parse_fneg, parse_icmp, parse_fcmp, parse_select, parse_freeze, icmp_preds, fcmp_preds, predicate, parse_conv, phi_items, parse_phi};
+ghost use Rattle.lexer.specs.Parsed.{Ok, Err};
 ghost use Rattle.lexer.specs.Reads.{Leads, Reads, made, same, Gives};
-ghost use Rattle.program.specs.Bytes.{bytes};
-ghost use Rattle.grammar.specs.Lexer.{skip_keyword};
 ghost use Rattle.lexer.specs.Table.{keywords_of};
 ghost use Rattle.grammar.specs.Types.{listed};
 
-use lexer::Parsed;
+use lexer::{Cursor, Parsed};
+use records::Refusal;
 use types::Listed;
 
 // T V, V
@@ -67,35 +67,26 @@ pub fn parse_fneg(text: &[u8], words: &mut [u64], p: Parsed, dest: u64) -> Parse
     unary(text, words, p, q1, records::K_FNEG)
 }
 
-// A predicate, as its rank.
-#[derive(Clone, Copy)]
-struct Pred {
-    p: Parsed,
-    r: u8,
-}
-
 // The predicates of `fcmp`, in ast.rs order.
 static FCMP_PREDICATES: [&[u8]; 16] = [
     b"false", b"oeq", b"ogt", b"oge", b"olt", b"ole", b"one", b"ord", b"ueq", b"ugt", b"uge",
     b"ult", b"ule", b"une", b"uno", b"true",
 ];
 
-// A predicate of a table, by its rank (`parse_fcmp_pred`, `parse_icmp_pred`).
-fn parse_predicate(text: &[u8], p: Parsed, table: &[&[u8]]) -> Pred
+// Behind a predicate of a table, and its rank (`parse_fcmp_pred`, `parse_icmp_pred`).
+fn parse_predicate(text: &[u8], p: Parsed, table: &[&[u8]]) -> Result<(Cursor, u8), Refusal>
     requires { length table.now ≤ 256 }
-    ensures { Gives (predicate (keywords_of table.now)) result.r text.now p result.p }
+    ensures { MatchResult result (λ x. Gives (predicate (keywords_of table.now)) x.1 text.now p (Ok x.0)) (λ e. (r : ℕ) → Gives (predicate (keywords_of table.now)) r text.now p (Err e)) }
 {
     let k = lexer_keywords::match_rank(text, lexer::eat_ws(text, p), table);
+    let c = k.p?;
     if k.r < table.len() {
-        return Pred {
-            p: k.p,
-            r: k.r as u8,
-        };
+        return Ok((c, k.r as u8));
     }
-    Pred {
-        p: lexer::refuse(k.p, records::Q_PREDICATE),
-        r: 0,
-    }
+    Err(Refusal {
+        question: records::Q_PREDICATE,
+        place: c.at,
+    })
 }
 
 // `fcmp P T V, V`
@@ -104,9 +95,8 @@ pub fn parse_fcmp(text: &[u8], words: &mut [u64], p: Parsed, dest: u64) -> Parse
 {
     let q = node_words::begin(words, p, dest);
     let q1 = attributes::skip_fast_math_flags(text, q);
-    let k = parse_predicate(text, q1, &FCMP_PREDICATES);
-    let q2 = k.p;
-    binary(text, words, p, q2, records::K_FCMP, k.r)
+    let (c, r) = parse_predicate(text, q1, &FCMP_PREDICATES)?;
+    binary(text, words, p, Ok(c), records::K_FCMP, r)
 }
 
 // `trunc T V to T` and its like. At a `(` the next statement would refuse.
@@ -129,22 +119,14 @@ static ICMP_PREDICATES: [&[u8]; 10] = [
     b"eq", b"ne", b"ugt", b"uge", b"ult", b"ule", b"sgt", b"sge", b"slt", b"sle",
 ];
 
-// `samesign`, if it stands there.
-pub fn skip_samesign(text: &[u8], p: Parsed) -> Parsed
-    ensures { Gives (skip_keyword (bytes "samesign")) tt text.now p result }
-{
-    lexer::skip_keyword(text, p, b"samesign")
-}
-
 // `icmp P T V, V`
 pub fn parse_icmp(text: &[u8], words: &mut [u64], p: Parsed, dest: u64) -> Parsed
     ensures { Leads (parse_icmp dest) 2 [] (made same text.now p) text.now p p words.old result words.new }
 {
     let q = node_words::begin(words, p, dest);
-    let q1 = skip_samesign(text, q);
-    let k = parse_predicate(text, q1, &ICMP_PREDICATES);
-    let q2 = k.p;
-    binary(text, words, p, q2, records::K_ICMP, k.r)
+    let q1 = lexer::skip_keyword(text, q, b"samesign");
+    let (c, r) = parse_predicate(text, q1, &ICMP_PREDICATES)?;
+    binary(text, words, p, Ok(c), records::K_ICMP, r)
 }
 
 // `select T V, T V, T V`
@@ -173,8 +155,7 @@ fn phi_items(text: &[u8], words: &mut [u64], p: Parsed) -> Listed
         let k = types::one_more(n);
         q = lexer::expect_token(text, q, b',');
         let l = lexer_names::parse_local_name(text, q);
-        q = l.p;
-        q = lexer::count_child(q, k);
+        q = lexer::count_child(l.p, k);
         n = types::one_more(k);
         q = lexer::expect_token(text, q, b']');
         q = inst_operands::label_node(words, q, l.v);
@@ -196,8 +177,7 @@ pub fn parse_phi(text: &[u8], words: &mut [u64], p: Parsed, dest: u64) -> Parsed
     let q = node_words::begin(words, p, dest);
     let q1 = types::parse_type(text, words, q, records::DEPTH_LIMIT);
     let l = phi_items(text, words, q1);
-    let q2 = l.p;
-    node_words::close(words, p, q2, records::K_PHI, records::D_NONE, l.n)
+    node_words::close(words, p, l.p, records::K_PHI, records::D_NONE, l.n)
 }
 
 // `freeze T V`

@@ -9,5 +9,5 @@ returns c =
     λ dest types. then _ c.parse_value-q.ensures
     (λ f. val _ c.expect_token-q1.ensures
     (then _ c.parse_arg_list-l.ensures
-    (λ ws. val _ c.skip_attrs-q3.ensures
+    (λ ws. val _ c.skip_attrs-q2.ensures
     (c.end.ensures _))))

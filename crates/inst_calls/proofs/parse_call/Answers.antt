@@ -2,7 +2,7 @@
 use Rattle.inst_calls.proofs.parse_call.Goals as goal
 
 pub shape_of-words : goal.shape_of-words
-shape_of-words c = c.call_node-r.auto.words
+shape_of-words c = c.call_node.auto.words
 
 pub returns : goal.returns
-returns c = c.call_node-r.ensures.0
+returns c = c.call_node.ensures.0

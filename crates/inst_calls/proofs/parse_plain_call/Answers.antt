@@ -15,4 +15,4 @@ shape_of-words c = c.call_node-r.auto.words
 
 pub returns : goal.returns
 returns c = plain_call _ _ (subst (Voids _ _) c.if-r.false (c.call_node-r.ensures.1 refl)) c.call_node-r.ensures.0
-    (λ ws. behind_next _ _ _ c.place-at.ensures (c.take_next.ensures _))
+    (λ ws. behind_next _ _ _ c.place.ensures (c.take_next.ensures _))

@@ -10,17 +10,17 @@ use Rattle.inst_memory.proofs.MemoryLaws.{align_none, align_some}
 use Rattle.grammar.specs.Instructions.{access}
 use Rattle.inst_memory.proofs.parse_access.Goals as goal
 
-pub shape_of-words-then-is_atomic : goal.shape_of-words-then-is_atomic
-shape_of-words-then-is_atomic c =
+pub shape_of-words-then-word : goal.shape_of-words-then-word
+shape_of-words-then-word c =
     c.end.auto.words ∙ c.access_operands-q4.auto.words ∙ c.begin-q.auto.words
 
-pub returns-then-is_atomic : goal.returns-then-is_atomic
+pub returns-then-word : goal.returns-then-word
 unfolding access
-returns-then-is_atomic c =
+returns-then-word c =
     begin_then _ c.begin-q.ensures
     (val _ c.eat_ws-q1.ensures
-    (word_yes _ _ c.is_atomic.ensures c.if-is_atomic.true c.pass_word-q2.ensures
-    (val _ c.skip_volatile-q3.ensures
+    (word_yes _ _ c.word.ensures c.if-word.true c.pass_word-q2.ensures
+    (val _ c.skip_keyword-q3.ensures
     (then _ c.access_operands-q4.ensures
     (λ x. val _ c.skip_atomic_ordering-q5.ensures
     (spare 0 (omega arith) (c.end.ensures _)))))))
@@ -34,8 +34,8 @@ unfolding access
 returns-in-None c =
     begin_then _ c.begin-q.ensures
     (val _ c.eat_ws-q1.ensures
-    (word_no _ _ c.is_atomic.ensures c.if-is_atomic.false
-    (val _ c.skip_volatile-p1.ensures
+    (word_no _ _ c.word.ensures c.if-word.false
+    (val _ c.skip_keyword-p1.ensures
     (again _ c.push-q6.ensures c.access_operands-q7.ensures (align_none c.in-None.is c.parse_trailing-t.ensures) c.access_operands-z.ensures c.resume-q9.ensures (λ x. close_is _ _ _ _ c.close.ensures)))))
 
 pub shape_of-words-in-Some : goal.shape_of-words-in-Some
@@ -47,8 +47,8 @@ unfolding access
 returns-in-Some c =
     begin_then _ c.begin-q.ensures
     (val _ c.eat_ws-q1.ensures
-    (word_no _ _ c.is_atomic.ensures c.if-is_atomic.false
-    (val _ c.skip_volatile-p1.ensures
+    (word_no _ _ c.word.ensures c.if-word.false
+    (val _ c.skip_keyword-p1.ensures
     (push_then _ c.push-q6.ensures
     (then _ c.access_operands-q7.ensures
     (λ x. val _ (align_some _ c.in-Some.is c.parse_trailing-t.ensures)

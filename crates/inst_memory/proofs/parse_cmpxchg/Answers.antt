@@ -15,8 +15,8 @@ pub returns : goal.returns
 unfolding parse_cmpxchg
 returns c =
     begin_then _ c.begin-q.ensures
-    (val _ c.skip_weak-q.ensures
-    (val _ c.skip_volatile-q.ensures
+    (val _ c.skip_keyword-q.ensures
+    (val _ c.skip_keyword-q-2.ensures
     (then_rich 0 _ {c = 1} c.pointer_then_value-q.ensures
     (λ x. val _ c.expect_token-q.ensures
     (then _ c.parse_operand-q.ensures
