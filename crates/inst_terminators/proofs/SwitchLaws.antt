@@ -1,4 +1,5 @@
--- The laws of a switch's cases: an integer is known by its first three words, and a turn of either loop is one step of `switch_cases`.
+-- The laws of a switch's cases: an integer is known by its first three words, and a turn of the loop is one step of `switch_cases`,
+-- whichever of the two it writes.
 -- Assumes nothing.
 use mathlib.Core.Path.{◌≡◌, refl, sym, ap, ◌∙◌, subst}
 use mathlib.Core.Bool.{Bool, true, false}
@@ -8,6 +9,7 @@ use native.Mathlib.Omega.{arith}
 use lib.Dec.{ltb, eqb}
 use lib.ListN.{length, get_or, drop, length-append}
 use borrow.Author.Tests.{ltb-true, ltb-false, eq-eqb, ne_eqb}
+use Rattle.std.specs.Result.{is_err}
 use Rattle.program.specs.Choice.{pick}
 use Rattle.program.specs.Prog.{Prog, ret, Res, ok, no_at, run}
 use Rattle.records.specs.Words.{node, header}
@@ -15,7 +17,7 @@ use Rattle.grammar.specs.Lexer.{eat_ws, refuse, expect_token, expect_keyword}
 use Rattle.records.specs.Kinds.{kind, IntConst}
 use Rattle.grammar.specs.Types.{room, child}
 use Rattle.grammar.specs.Instructions.{label_node, parse_operand, target, case_int, Cases, cases, switch_cases, switch_front, switch_node}
-use Rattle.node_words.specs.Writes.{joined, pushed, pushes, closes, patches, restarted}
+use Rattle.node_words.specs.Writes.{joined, pushed, closes, patches, restarted}
 use Rattle.lexer.specs.Step.{looks_p, passed, refused, counted_p}
 use Rattle.lexer.specs.Reads.{Budget, At, Ends, at, out, Leads, Goal, made, same, Inside, Gave, got, not, Gives}
 use Rattle.lexer.specs.declared.Cursor.{Cursor}
@@ -25,7 +27,7 @@ use Rattle.node_words.proofs.Laws.{push_then, patch_then, close_is}
 use Rattle.lexer.proofs.Children.{g_child, in_room}
 use Rattle.lexer_names.proofs.Passed.{passes_any, passes_then, passes_token, passes_keyword, passes_local}
 use Rattle.inst_operands.specs.Kept.{keeps, keeps_not, kept, nothing}
-use Rattle.inst_terminators.specs.Switch.{taken_p, stopped_p}
+use Rattle.inst_terminators.specs.Switch.{taken_p, cases_of, turns_of, weight_of, CaseWrites}
 use Rattle.inst_operands.proofs.Twice.{Shows, kept_here}
 use Rattle.inst_operands.proofs.OperandLaws.{ok_not}
 
@@ -115,51 +117,48 @@ unfolding label_node node
 label_long labels l = length-append labels (label_node l)
 
 -- where the reader is refused, any program is
-stops_at : {A : Type 0} {f : Prog A} {E : Goal A} {c : ℕ} {mid text : List ℕ} {p0 : Parsed} {w : List ℕ} (p : Parsed) → stopped_p p ≡ true → Leads f c mid E text p0 p w p w
+stops_at : {A : Type 0} {f : Prog A} {E : Goal A} {c : ℕ} {mid text : List ℕ} {p0 : Parsed} {w : List ℕ} (p : Parsed) → is_err p ≡ true → Leads f c mid E text p0 p w p w
 stops_at (Ok x) e = true_false e
 stops_at (Err r) e = record { runs = λ o low k cur t a. no_ok cur r.question r.place (sym t); hands = λ m y t. t }
-
-stops : {A : Type 0} {f : Prog A} {E : Goal A} {c : ℕ} {mid text : List ℕ} {p0 p : Parsed} {w : List ℕ} {r : Bool} → r ≡ stopped_p p → r ≡ true → Leads f c mid E text p0 p w p w
-stops {A} {f} {E} {c} {mid} {text} {p0} {p} e t = stops_at p (sym e ∙ t)
 
 passes_case : (n : ℕ) → Passes 8 (child n target)
 unfolding child
 passes_case n = passes_then target (room n) 8 0 passes_target (λ a. passes_any _)
 
-pub cases_out : (u n : ℕ) (ints labels : List ℕ) {text : List ℕ} {p0 q q1 : Parsed} {w : List ℕ} {E : Goal Cases} {c : ℕ} {mid : List ℕ} → u ≤ 0 → q1 ≡ refused 19 q → Leads (switch_cases u n ints labels) c mid E text p0 q w q1 w
+pub cases_out : (u n : ℕ) (is : Bool) (left written : List ℕ) {text : List ℕ} {p0 q q1 : Parsed} {w : List ℕ} {E : Goal Cases} {c : ℕ} {mid : List ℕ} → u ≤ 0 → q1 ≡ refused 19 q → Leads (turns_of is u n left written) c mid E text p0 q w q1 w
 unfolding switch_cases
-cases_out u n ints labels h x = no_more (λ t. switch_cases t n ints labels) u h (fail_is _ x)
+cases_out u n false labels ints h x = no_more (λ t. switch_cases t n ints labels) u h (fail_is _ x)
+cases_out u n true ints labels h x = no_more (λ t. switch_cases t n ints labels) u h (fail_is _ x)
 
-module _ (u n : ℕ) (ints labels : List ℕ) {text : List ℕ} {p0 q q1 : Parsed} {w : List ℕ} (pos : 0 < u) (gw : Gives eat_ws tt text q q1) where
-  pub ints_end : {z : Bool} {q2 : Parsed} → z ≡ looks_p text q1 93 → z ≡ true → q2 ≡ passed text 1 q1 → Leads (switch_cases u n ints labels) (length labels) ints (kept (λ labels ints. ret (cases n ints labels)) length text p0) text p0 q w q2 w
-  unfolding switch_cases
-  ints_end l y x = more (λ t. switch_cases t n ints labels) u pos (token_yes _ _ gw l y x (kept_here (λ labels ints. ret (cases n ints labels)) length labels (omega arith)))
+pub cases_start : (is : Bool) {text : List ℕ} {p : Parsed} {w : List ℕ} → Leads (switch_cases 65536 3 [] []) 0 [] (kept (turns_of is 65536 3) (weight_of is) text p) text p p w p w
+cases_start false = kept_here (λ labels ints. switch_cases 65536 3 ints labels) length [] (omega arith)
+cases_start true = kept_here (λ ints labels. switch_cases 65536 3 ints labels) nothing [] (omega arith)
 
-  pub labels_end : {z : Bool} {q2 : Parsed} → z ≡ looks_p text q1 93 → z ≡ true → q2 ≡ passed text 1 q1 → Leads (switch_cases u n ints labels) 0 labels (kept (λ ints labels. ret (cases n ints labels)) nothing text p0) text p0 q w q2 w
+module _ (u n : ℕ) {text : List ℕ} {p0 q q1 : Parsed} {w : List ℕ} (pos : 0 < u) (gw : Gives eat_ws tt text q q1) where
+  pub cases_end : (is : Bool) (left written : List ℕ) {z : Bool} {q2 : Parsed} → z ≡ looks_p text q1 93 → z ≡ true → q2 ≡ passed text 1 q1
+      → Leads (turns_of is u n left written) (weight_of is left) written (kept (λ left written. ret (cases_of is n left written)) (weight_of is) text p0) text p0 q w q2 w
   unfolding switch_cases
-  labels_end l y x = more (λ t. switch_cases t n ints labels) u pos (token_yes _ _ gw l y x (kept_here (λ ints labels. ret (cases n ints labels)) nothing ints (omega arith)))
+  cases_end false labels ints l y x = more (λ t. switch_cases t n ints labels) u pos (token_yes _ _ gw l y x (kept_here (λ labels ints. ret (cases n ints labels)) length labels (omega arith)))
+  cases_end true ints labels l y x = more (λ t. switch_cases t n ints labels) u pos (token_yes _ _ gw l y x (kept_here (λ ints labels. ret (cases n ints labels)) nothing ints (omega arith)))
 
   module _ {z : Bool} {q2 q3 q4 : Parsed} {hi lo name : ℕ} (l : z ≡ looks_p text q1 93) (y : z ≡ false) (gc : Gives case_int (hi ∷ lo ∷ []) text q1 q2) (gt : Gives target name text q2 q3) (x : q4 ≡ counted_p n q3) where
-    pub cases_stop : {E : Goal Cases} {c : ℕ} {mid : List ℕ} {r : Bool} → r ≡ stopped_p q4 → r ≡ true → Leads (switch_cases u n ints labels) c mid E text p0 q w q4 w
+    pub cases_stop : (is : Bool) (left written : List ℕ) {E : Goal Cases} {c : ℕ} {mid : List ℕ} → is_err q4 ≡ true → Leads (turns_of is u n left written) c mid E text p0 q w q4 w
     unfolding switch_cases
-    cases_stop e t = more (λ t. switch_cases t n ints labels) u pos (token_no _ _ gw l y (val _ gc (val _ (g_child n x gt) (stops e t))))
+    cases_stop false labels ints t = more (λ t. switch_cases t n ints labels) u pos (token_no _ _ gw l y (val _ gc (val _ (g_child n x gt) (stops_at q4 t))))
+    cases_stop true ints labels t = more (λ t. switch_cases t n ints labels) u pos (token_no _ _ gw l y (val _ gc (val _ (g_child n x gt) (stops_at q4 t))))
 
-    pub ints_more : (m : ℕ) {q5 q6 : Parsed} {w1 w2 : List ℕ} → (n < 65535 → m ≡ n + 1) → (q5 ≡ pushed q4) × (w1 ≡ pushes hi q4 w) → (q6 ≡ pushed q5) × (w2 ≡ pushes lo q5 w1)
-        → Leads (switch_cases u n ints labels) (length labels) ints (kept (λ labels ints. switch_cases (u - 1) m ints labels) length text p0) text p0 q w q6 w2
+    pub cases_more : (is : Bool) (left written : List ℕ) (m : ℕ) {q5 : Parsed} {w1 : List ℕ} → (n < 65535 → m ≡ n + 1) → CaseWrites is hi lo name q4 w q5 w1
+        → Leads (turns_of is u n left written) (weight_of is left) written (kept (turns_of is (u - 1) m) (weight_of is) text p0) text p0 q w q5 w1
     unfolding switch_cases
-    ints_more m {q5} {q6} {w1} {w2} e a b =
+    cases_more false labels ints m {q5} {w1} e o =
         more (λ t. switch_cases t n ints labels) u pos
-        (token_no _ _ gw l y (val _ gc (val_paid _ 8 (passes_case n) (g_child n x gt) (in_room n q3 x (λ i j z. b.0 ∙ ap pushed (a.0 ∙ ap pushed z)) (λ lt. spare (suc (suc (length labels + 2))) (omega arith) (push_then hi a (push_then lo b
-        (subst (λ (t : List ℕ). Leads (switch_cases (u - 1) (n + 1) t (labels ++ label_node name)) (length labels + 2) ((ints ++ (hi ∷ [])) ++ (lo ∷ [])) (kept (λ labels ints. switch_cases (u - 1) m ints labels) length text p0) text p0 q6 w2 q6 w2) (append_assoc ints (hi ∷ []) (lo ∷ []))
-        (subst (λ (t : ℕ). Leads (switch_cases (u - 1) t ((ints ++ (hi ∷ [])) ++ (lo ∷ [])) (labels ++ label_node name)) (length labels + 2) ((ints ++ (hi ∷ [])) ++ (lo ∷ [])) (kept (λ labels ints. switch_cases (u - 1) m ints labels) length text p0) text p0 q6 w2 q6 w2) (e lt)
+        (token_no _ _ gw l y (val _ gc (val_paid _ 8 (passes_case n) (g_child n x gt) (in_room n q3 x (λ i j z. o.0 ∙ ap pushed (ap pushed z)) (λ lt. spare (suc (suc (length labels + 2))) (omega arith) (push_then hi (refl, refl) (push_then lo o
+        (subst (λ (t : List ℕ). Leads (switch_cases (u - 1) (n + 1) t (labels ++ label_node name)) (length labels + 2) ((ints ++ (hi ∷ [])) ++ (lo ∷ [])) (kept (λ labels ints. switch_cases (u - 1) m ints labels) length text p0) text p0 q5 w1 q5 w1) (append_assoc ints (hi ∷ []) (lo ∷ []))
+        (subst (λ (t : ℕ). Leads (switch_cases (u - 1) t ((ints ++ (hi ∷ [])) ++ (lo ∷ [])) (labels ++ label_node name)) (length labels + 2) ((ints ++ (hi ∷ [])) ++ (lo ∷ [])) (kept (λ labels ints. switch_cases (u - 1) m ints labels) length text p0) text p0 q5 w1 q5 w1) (e lt)
         (kept_here (λ labels ints. switch_cases (u - 1) m ints labels) length (labels ++ label_node name) (omega (arith, label_long labels name))))))))))))
-
-    pub labels_more : (m : ℕ) {q5 : Parsed} {w1 : List ℕ} → (n < 65535 → m ≡ n + 1) → Leads (ret (label_node name)) 2 [] (made same text q4) text q4 q4 w q5 w1
-        → Leads (switch_cases u n ints labels) 0 labels (kept (λ ints labels. switch_cases (u - 1) m ints labels) nothing text p0) text p0 q w q5 w1
-    unfolding switch_cases
-    labels_more m {q5} {w1} e a =
+    cases_more true ints labels m {q5} {w1} e a =
         more (λ t. switch_cases t n ints labels) u pos
-        (token_no _ _ gw l y (val _ gc (val_paid _ 8 (passes_case n) (g_child n x gt) (in_room n q3 x a.hands (λ lt. spare (2 + 0) (omega arith) (write_then (label_node name) 2 a
+        (token_no _ _ gw l y (val _ gc (val_paid _ 8 (passes_case n) (g_child n x gt) (in_room n q3 x (a text).hands (λ lt. spare (2 + 0) (omega arith) (write_then (label_node name) 2 (a text)
         (subst (λ (t : ℕ). Leads (switch_cases (u - 1) t (ints ++ (hi ∷ lo ∷ [])) (labels ++ label_node name)) 0 (labels ++ label_node name) (kept (λ ints labels. switch_cases (u - 1) m ints labels) nothing text p0) text p0 q5 w1 q5 w1) (e lt)
         (kept_here (λ ints labels. switch_cases (u - 1) m ints labels) nothing (ints ++ (hi ∷ lo ∷ [])) (omega arith)))))))))
 

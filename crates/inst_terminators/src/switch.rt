@@ -1,11 +1,11 @@
 // `parse_switch`: the count of the cases and their integers are payload and stand first, the operand and the labels behind them.
-ghost use Rattle.std.specs.Prelude.{◌≡◌, [], ◌∷◌, length};
+ghost use Rattle.std.specs.Prelude.{◌≡◌, [], ◌∷◌, Bool};
 ghost use Rattle.program.specs.Prog.{ret};
-ghost use Rattle.grammar.specs.Instructions.{case_int, cases, switch_cases, parse_switch};
+ghost use Rattle.grammar.specs.Instructions.{case_int, switch_cases, parse_switch};
 ghost use Rattle.lexer.specs.Reads.{Leads, Gives, made, same};
 ghost use Rattle.inst_operands.specs.Rich.{richly};
-ghost use Rattle.inst_operands.specs.Kept.{kept, nothing};
-ghost use Rattle.inst_terminators.specs.Switch.{taken_p, stopped_p};
+ghost use Rattle.inst_operands.specs.Kept.{kept};
+ghost use Rattle.inst_terminators.specs.Switch.{taken_p, cases_of, weight_of, Writes};
 
 use lexer::Parsed;
 
@@ -48,13 +48,6 @@ fn case_int(text: &[u8], p: Parsed) -> Case
     Case { p: q3, lo, hi }
 }
 
-// Was the reader refused? No byte ends the list of cases then, so this does.
-fn stopped(p: Parsed) -> bool
-    ensures { result ≡ stopped_p p }
-{
-    p.is_err()
-}
-
 // So many children there are with the labels of the cases.
 #[derive(Clone, Copy)]
 struct Cases {
@@ -62,9 +55,15 @@ struct Cases {
     n: u16,
 }
 
-// The cases through the `]`, their integers written.
-fn switch_ints(text: &[u8], words: &mut [u64], p: Parsed) -> Cases
-    ensures { Leads (switch_cases 65536 3 [] []) 0 [] (kept (λ labels ints. ret (cases result.n ints labels)) length text.now p) text.now p p words.old result.p words.new }
+// The cases through the `]`, where one of the two is written of each: its integer, the labels left for later, or its label.
+fn switch_cases<F: Fn(&mut [u64], Parsed, Case, u64) -> Parsed>(
+    text: &[u8],
+    words: &mut [u64],
+    p: Parsed,
+    write: F,
+) -> Cases
+    requires { F.IsAlwaysCallable write }
+    ensures { (labels : Bool) → Writes F.post write labels → Leads (switch_cases 65536 3 [] []) 0 [] (kept (λ left written. ret (cases_of labels result.n left written)) (weight_of labels) text.now p) text.now p p words.old result.p words.new }
 {
     let mut q = p;
     let mut n: u16 = SWITCH_FRONT;
@@ -79,38 +78,11 @@ fn switch_ints(text: &[u8], words: &mut [u64], p: Parsed) -> Cases
         let t = inst_operands::target(text, q);
         q = t.p;
         q = lexer::count_child(q, n);
-        if stopped(q) {
+        if q.is_err() {
+            // no byte ends the list of cases then
             return Cases { p: q, n };
         }
-        q = node_words::push(words, q, c.hi);
-        q = node_words::push(words, q, c.lo);
-        n = types::one_more(n);
-    }
-    q = lexer::refuse(q, records::Q_CHILDREN);
-    Cases { p: q, n }
-}
-
-// The cases through the `]`, their labels written.
-fn switch_labels(text: &[u8], words: &mut [u64], p: Parsed) -> Cases
-    ensures { Leads (switch_cases 65536 3 [] []) 0 [] (kept (λ ints labels. ret (cases result.n ints labels)) nothing text.now p) text.now p p words.old result.p words.new }
-{
-    let mut q = p;
-    let mut n: u16 = SWITCH_FRONT;
-    for _left in (0..records::LIST_TURNS).rev() {
-        q = lexer::eat_ws(text, q);
-        if lexer::looks(text, q, b']') {
-            q = lexer::pass(text, q, 1);
-            return Cases { p: q, n };
-        }
-        let c = case_int(text, q);
-        q = c.p;
-        let t = inst_operands::target(text, q);
-        q = t.p;
-        q = lexer::count_child(q, n);
-        if stopped(q) {
-            return Cases { p: q, n };
-        }
-        q = inst_operands::label_node(words, q, t.v);
+        q = write(words, q, c, t.v);
         n = types::one_more(n);
     }
     q = lexer::refuse(q, records::Q_CHILDREN);
@@ -128,7 +100,10 @@ pub fn parse_switch(text: &[u8], words: &mut [u64], p: Parsed) -> Parsed
     let d = inst_operands::target(text, q1);
     let q2 = d.p;
     let p3 = lexer::expect_token(text, q2, b'[');
-    let c = switch_ints(text, words, p3);
+    let c = switch_cases(text, words, p3, |words, q, case, _label| {
+        let q1 = node_words::push(words, q, case.hi);
+        node_words::push(words, q1, case.lo)
+    });
     let q3 = c.p;
     let t = inst_operands::parse_trailing(text, q3);
     let q4 = t.p;
@@ -137,7 +112,12 @@ pub fn parse_switch(text: &[u8], words: &mut [u64], p: Parsed) -> Parsed
     let q5 = inst_operands::resume(z1, q4);
     let q6 = inst_operands::label_node(words, q5, d.v);
     let z2 = inst_operands::resume(q6, p3);
-    let l = switch_labels(text, words, z2);
+    let l = switch_cases(
+        text,
+        words,
+        z2,
+        |words, q, _case, label| inst_operands::label_node(words, q, label),
+    );
     let z3 = l.p;
     let q7 = inst_operands::resume(z3, q6);
     let count = c.n.saturating_sub(SWITCH_FRONT);

@@ -1,17 +1,18 @@
 // Opcodes: their rank in one table of all that may stand there, a quick way for the most frequent, and the reader of each. A word is lent by its
 // places and compared with quotes and escapes undone.
-ghost use Rattle.std.specs.Prelude.{◌≡◌, ◌<◌, ◌≤◌, []};
+ghost use Rattle.std.specs.Prelude.{◌≡◌, ◌<◌, ◌≤◌, [], length, ⊤, MatchOption};
 ghost use Rattle.grammar.specs.Lexer.{rank, spelled};
 ghost use Rattle.grammar.specs.Counter.{counted};
 ghost use Rattle.lexer_names.specs.Names.{part, raw_word};
 ghost use Rattle.piece_block.specs.Opcodes.{value_opcodes, statement_words, value_at, terminator_at, plain_at};
+ghost use Rattle.lexer.specs.Table.{keywords_of};
 ghost use Rattle.lexer.specs.Reads.{Leads, made, same};
 ghost use Rattle.inst_operands.specs.Rich.{richly};
 
 use lexer::Parsed;
 use piece_counter::Counter;
 
-// Ranks in the table of `value_opcode`, where the code needs one: operations, conversions and the words before `call` begin at V_FADD, V_TRUNC and
+// Ranks in the table of `value_rank`, where the code needs one: operations, conversions and the words before `call` begin at V_FADD, V_TRUNC and
 // V_TAIL, each in its table's order, and V_NONE is no opcode's. `value_opcodes` is the same table, and a law computes that they fit.
 pub const V_ADD: u8 = 0;
 
@@ -55,7 +56,7 @@ pub const V_TAIL: u8 = 43;
 
 pub const V_NONE: u8 = 46;
 
-// Ranks in the table of `statement_opcode`: terminators first, then from S_STORE on the instructions without a destination, from S_TAIL on the words
+// Ranks in the table of `statement_rank`: terminators first, then from S_STORE on the instructions without a destination, from S_TAIL on the words
 // before `call`; S_NONE is no opcode's.
 pub const S_RET: u8 = 0;
 
@@ -73,16 +74,7 @@ pub const S_TAIL: u8 = 7;
 
 pub const S_NONE: u8 = 10;
 
-// A rank in a short table.
-fn narrow(r: usize) -> u8
-    ensures { r < 256 → result ≡ r }
-{
-    if r < 256 {
-        return r as u8;
-    }
-    0
-}
-
+// The words of `value_opcodes`.
 static VALUE_OPCODES: [&[u8]; 46] = [
     b"add",
     b"sub",
@@ -132,14 +124,7 @@ static VALUE_OPCODES: [&[u8]; 46] = [
     b"notail",
 ];
 
-// The opcode behind `%x =` that stands from a place to another.
-pub fn value_opcode(text: &[u8], from: usize, to: usize) -> u8
-    ensures { result ≡ rank (spelled (raw_word (part text.now from to))) value_opcodes }
-{
-    let r = lexer_spelling::spelled_rank(text, from, to, &VALUE_OPCODES);
-    narrow(r)
-}
-
+// The words of `statement_words`.
 static STATEMENT_WORDS: [&[u8]; 10] = [
     b"ret",
     b"br",
@@ -153,87 +138,80 @@ static STATEMENT_WORDS: [&[u8]; 10] = [
     b"notail",
 ];
 
-// The word that begins a statement, from a place to another.
-pub fn statement_opcode(text: &[u8], from: usize, to: usize) -> u8
-    ensures { result ≡ rank (spelled (raw_word (part text.now from to))) statement_words }
-{
-    let r = lexer_spelling::spelled_rank(text, from, to, &STATEMENT_WORDS);
-    narrow(r)
-}
+// A word and its rank in a table.
+#[derive(Clone, Copy)]
+struct Likely(&'static [u8], u8);
 
-// The opcode that stands from a place to another, which is likely kw, whose rank is k.
-fn likely(text: &[u8], from: usize, to: usize, kw: &[u8], k: u8) -> u8
-    requires { k ≡ rank kw.now value_opcodes }
-    ensures { result ≡ rank (spelled (raw_word (part text.now from to))) value_opcodes }
+// The rank in a table of the word that stands from a place to another, where some word is likely there: in so short a table a byte holds it.
+fn quick_rank(text: &[u8], from: usize, to: usize, table: &[&[u8]], likely: Option<Likely>) -> u8
+    requires short { length table.now < 256 }
+    requires ranked { MatchOption likely ⊤ (λ l. l.1 ≡ rank l.0.now (keywords_of table.now)) }
+    ensures { result ≡ rank (spelled (raw_word (part text.now from to))) (keywords_of table.now) }
 {
-    if lexer_spelling::spells(text, from, to, kw) {
-        return k;
+    match likely {
+        Some(l) if lexer_spelling::spells(text, from, to, l.0) => l.1,
+        _ => lexer_spelling::spelled_rank(text, from, to, table) as u8,
     }
-    value_opcode(text, from, to)
 }
 
-// The same, likely one of two.
-fn either(text: &[u8], from: usize, to: usize, kw: &[u8], k: u8, kw2: &[u8], k2: u8) -> u8
-    requires { (k ≡ rank kw.now value_opcodes) × (k2 ≡ rank kw2.now value_opcodes) }
-    ensures { result ≡ rank (spelled (raw_word (part text.now from to))) value_opcodes }
+// The frequent opcode behind `%x =` whose first letters stand at a place.
+#[tactic(auto, unfolding(grammar::specs::Lexer::same_word, grammar::specs::Lexer::rank, grammar::specs::Values::bin_ops, grammar::specs::Instructions::fbin_ops, grammar::specs::Instructions::inst_conv_ops, grammar::specs::Instructions::tail_words, crate::specs::Opcodes::value_opcodes))]
+fn likely_value(text: &[u8], from: usize) -> Option<Likely>
+    ensures { MatchOption result ⊤ (λ l. l.1 ≡ rank l.0.now value_opcodes) }
 {
-    if lexer_spelling::spells(text, from, to, kw) {
-        return k;
+    match text.get(from)? {
+        b'l' => Some(Likely(b"load", V_LOAD)),
+        b'g' => Some(Likely(b"getelementptr", V_GETELEMENTPTR)),
+        b'c' => Some(Likely(b"call", V_CALL)),
+        b'i' => Some(Likely(b"icmp", V_ICMP)),
+        b'p' => Some(Likely(b"phi", V_PHI)),
+        b't' => Some(Likely(b"tail", V_TAIL)),
+        b'z' => Some(Likely(b"zext", V_ZEXT)),
+        b'a' if text[from..].starts_with(b"ad") => Some(Likely(b"add", V_ADD)),
+        b'a' => Some(Likely(b"alloca", V_ALLOCA)),
+        b's' if text[from..].starts_with(b"sex") => Some(Likely(b"sext", V_SEXT)),
+        b's' => Some(Likely(b"select", V_SELECT)),
+        b'm' => Some(Likely(b"mul", V_MUL)),
+        b'b' => Some(Likely(b"bitcast", V_BITCAST)),
+        _ => None,
     }
-    likely(text, from, to, kw2, k2)
 }
 
-// The opcode that stands from a place to another.
+// The opcode behind `%x =` that stands from a place to another.
+#[tactic(auto, unfolding(grammar::specs::Values::bin_ops, grammar::specs::Instructions::fbin_ops, grammar::specs::Instructions::inst_conv_ops, grammar::specs::Instructions::tail_words, crate::specs::Opcodes::value_opcodes))]
 pub fn value_rank(text: &[u8], from: usize, to: usize) -> u8
     ensures { result ≡ rank (spelled (raw_word (part text.now from to))) value_opcodes }
 {
-    if from < text.len() {
-        let b = text[from];
-        return match b {
-            b'l' => likely(text, from, to, b"load", V_LOAD),
-            b'g' => likely(text, from, to, b"getelementptr", V_GETELEMENTPTR),
-            b'c' => likely(text, from, to, b"call", V_CALL),
-            b'i' => likely(text, from, to, b"icmp", V_ICMP),
-            b'p' => likely(text, from, to, b"phi", V_PHI),
-            b't' => likely(text, from, to, b"tail", V_TAIL),
-            b'z' => likely(text, from, to, b"zext", V_ZEXT),
-            b'a' => either(text, from, to, b"add", V_ADD, b"alloca", V_ALLOCA),
-            b's' => either(text, from, to, b"sext", V_SEXT, b"select", V_SELECT),
-            b'm' => likely(text, from, to, b"mul", V_MUL),
-            b'b' => likely(text, from, to, b"bitcast", V_BITCAST),
-            _ => value_opcode(text, from, to),
-        };
-    }
-    value_opcode(text, from, to)
+    quick_rank(text, from, to, &VALUE_OPCODES, likely_value(text, from))
 }
 
-// The word that begins a statement, from a place to another, which is likely kw, whose rank is k.
-fn likely_statement(text: &[u8], from: usize, to: usize, kw: &[u8], k: u8) -> u8
-    requires { k ≡ rank kw.now statement_words }
-    ensures { result ≡ rank (spelled (raw_word (part text.now from to))) statement_words }
+// The frequent word before a statement whose first letter stands at a place.
+#[tactic(auto, unfolding(grammar::specs::Lexer::same_word, grammar::specs::Lexer::rank, grammar::specs::Instructions::tail_words, crate::specs::Opcodes::statement_words))]
+fn likely_statement(text: &[u8], from: usize) -> Option<Likely>
+    ensures { MatchOption result ⊤ (λ l. l.1 ≡ rank l.0.now statement_words) }
 {
-    if lexer_spelling::spells(text, from, to, kw) {
-        return k;
+    match text.get(from)? {
+        b's' => Some(Likely(b"store", S_STORE)),
+        b'b' => Some(Likely(b"br", S_BR)),
+        b'c' => Some(Likely(b"call", S_CALL)),
+        b'r' => Some(Likely(b"ret", S_RET)),
+        b't' => Some(Likely(b"tail", S_TAIL)),
+        _ => None,
     }
-    statement_opcode(text, from, to)
 }
 
 // The word that begins a statement, from a place to another.
+#[tactic(auto, unfolding(grammar::specs::Instructions::tail_words, crate::specs::Opcodes::statement_words))]
 pub fn statement_rank(text: &[u8], from: usize, to: usize) -> u8
     ensures { result ≡ rank (spelled (raw_word (part text.now from to))) statement_words }
 {
-    if from < text.len() {
-        let b = text[from];
-        return match b {
-            b's' => likely_statement(text, from, to, b"store", S_STORE),
-            b'b' => likely_statement(text, from, to, b"br", S_BR),
-            b'c' => likely_statement(text, from, to, b"call", S_CALL),
-            b'r' => likely_statement(text, from, to, b"ret", S_RET),
-            b't' => likely_statement(text, from, to, b"tail", S_TAIL),
-            _ => statement_opcode(text, from, to),
-        };
-    }
-    statement_opcode(text, from, to)
+    quick_rank(
+        text,
+        from,
+        to,
+        &STATEMENT_WORDS,
+        likely_statement(text, from),
+    )
 }
 
 // An instruction behind `%x =` and its opcode (`parse_value_inst`); 9 where no opcode stands there.

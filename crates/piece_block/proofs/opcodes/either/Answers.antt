@@ -1,6 +1,0 @@
--- A word that spells one of the two keywords has that keyword's rank, which the caller gives.
-use Rattle.piece_block.proofs.StatementLaws.{rank_same}
-use Rattle.piece_block.proofs.opcodes.either.Goals as goal
-
-pub returns-then-spells : goal.returns-then-spells
-returns-then-spells c = rank_same _ _ _ c.requires.0 c.spells.ensures c.if-spells.true
