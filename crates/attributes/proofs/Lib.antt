@@ -1,2 +1,1 @@
-mod AttrLaws
 pub mod LetterLaws

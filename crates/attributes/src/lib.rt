@@ -2,16 +2,15 @@
 // Each table of words stands before the function that searches it.
 #![tactic(auto)]
 
-ghost use Rattle.std.specs.Prelude.{◌≡◌, ◌+◌, drop};
-ghost use Rattle.program.specs.Prog.{scan_len};
+ghost use Rattle.std.specs.Prelude.{◌≡◌, drop};
 ghost use Rattle.grammar.specs.Lexer.{skip_all};
 ghost use Rattle.records.specs.Limits.{turns};
 ghost use Rattle.grammar.specs.Attributes.{paren_attrs, flag_attrs, linkages, calling_conventions, conv_flags, skip_arith_flags, skip_fast_math_flags, parse_linkage, skip_call_cconv, group_step, attr_parens, skip_attrs};
 ghost use Rattle.attributes.specs.Step.{group_digits, AttrStep, letters, letters_p, no_attrs};
-ghost use Rattle.lexer.specs.Step.{rank_p, ranked_p};
+ghost use Rattle.lexer.specs.Step.{step_of, rank_p, ranked_p};
 ghost use Rattle.lexer.specs.Reads.{Gives};
 
-use lexer::{Cursor, Parsed, limits};
+use lexer::{Cursor, Parsed, limits, scan_text};
 use lexer_keywords::Ranked;
 
 // The rank of a linkage that is not written.
@@ -247,16 +246,15 @@ pub fn skip_call_cconv(text: &[u8], p: Parsed) -> Parsed
     q1
 }
 
-// The place behind the digits that stand at `at`, underscores not taken.
-fn group_end(text: &[u8], at: usize) -> usize
-    ensures { result ≡ at + scan_len group_step 0 (drop at text.now) }
+// A group's digits, underscores not taken: the one state, or none where they end.
+fn group_step(q: u8, b: u8) -> Option<u8>
+    ensures { step_of result ≡ group_step q b }
 {
-    for i in at..text.len() {
-        if limits::DIGIT <= lexer::class(text[i]) {
-            return i;
-        }
+    if lexer::class(b) < limits::DIGIT {
+        Some(0)
+    } else {
+        None
     }
-    at.max(text.len())
 }
 
 // The digits behind `#`.
@@ -265,7 +263,7 @@ fn skip_group(text: &[u8], p: Parsed) -> Parsed
 {
     let c = p?;
     Ok(Cursor {
-        at: group_end(text, c.at),
+        at: scan_text(text, c.at, group_step).at,
         w: c.w,
     })
 }

@@ -15,7 +15,7 @@ use borrow.Author.Tests.{eq-eqb, ne_eqb, lt-ltb, le-ltb, le-leb, lt-leb, leb-tru
 use Rattle.program.specs.Lists.{drop_next}
 use Rattle.program.specs.Class.{class_of, is_word, is_space}
 use Rattle.program.specs.Prog.{byte_at, lead_word, scan_len}
-use Rattle.grammar.specs.Lexer.{is_byte, same_word, state_of, space_step}
+use Rattle.grammar.specs.Lexer.{is_byte, same_word, starts_with, state_of, space_step}
 use Rattle.std.specs.Prelude.{Some, None, max}
 use Rattle.lexer.specs.Step.{step_of, taken, StopAt}
 
@@ -51,51 +51,64 @@ pub wordless : (x r : ℕ) → r ≡ class_of x → 16 < r → is_word x ≡ fal
 unfolding is_word
 wordless x r e h = rw (← e, lt-leb _ _ h)
 
-module _ (k s : List ℕ) (j i : ℕ) (hj : j < length k) where
-  pub word_short : length s ≤ i → same_word (lead_word (drop i s)) (drop j k) ≡ false
-  unfolding same_word lead_word
-  word_short hi = rw (drop_next k j hj, drop_of_length-le s hi)
+and_false : (a : Bool) → (a && false) ≡ false
+and_false true = refl
+and_false false = refl
 
-  module _ (hi : i < length s) where
-    pub word_other : (get_or s i 0 ≡ get_or k j 0 → ⊥) → same_word (lead_word (drop i s)) (drop j k) ≡ false
-    unfolding same_word lead_word
-    word_other q = rw (drop_next k j hj, drop_next s i hi) (go (is_word (get_or s i 0)))
+-- ---- a keyword: a word that begins with it and ends with it
+no_bool : {A : Type 0} → ◌≡◌ {A = Bool} false true → A
+no_bool e = absurd (let z : ◌≡◌ {A = ℕ} 0 1 = cc in omega arith)
+
+both_true : (a b : Bool) → (a && b) ≡ true → (a ≡ true) × (b ≡ true)
+both_true true b e = (refl, e)
+both_true false b e = no_bool e
+
+-- the word begins with another one
+pub not_begun : (k s : List ℕ) → starts_with k (lead_word s) ≡ false → same_word (lead_word s) k ≡ false
+unfolding starts_with lead_word same_word
+not_begun [] s e = no_bool (sym e)
+not_begun (y ∷ k) [] e = refl
+not_begun (y ∷ k) (x ∷ s) e = go (is_word x) (not_begun k s) e
+  where
+    go : (b : Bool) → (starts_with k (lead_word s) ≡ false → same_word (lead_word s) k ≡ false) → starts_with (y ∷ k) (elim b [ true ↦ x ∷ lead_word s | false ↦ [] ]) ≡ false → same_word (elim b [ true ↦ x ∷ lead_word s | false ↦ [] ]) (y ∷ k) ≡ false
+    go true i t = two (eqb y x) refl t
       where
-        go : (b : Bool) → same_word (elim b [ true ↦ get_or s i 0 ∷ lead_word (drop (i + 1) s) | false ↦ [] ]) (get_or k j 0 ∷ drop (j + 1) k) ≡ false
-        go true = rw (ne_eqb _ _ q)
-        go false = refl
+        two : (z : Bool) → eqb y x ≡ z → (z && starts_with k (lead_word s)) ≡ false → (eqb x y && same_word (lead_word s) k) ≡ false
+        two true h u = rw (i u) (and_false (eqb x y))
+        two false h u = let n : (x ≡ y → ⊥) = λ q. no_bool (sym h ∙ eq-eqb y x (sym q)) in rw (ne_eqb _ _ n)
+    go false i t = refl
 
-    pub word_ends : (r : ℕ) → r ≡ class_of (get_or s i 0) → 16 < r → same_word (lead_word (drop i s)) (drop j k) ≡ false
-    unfolding same_word lead_word
-    word_ends r e h =
-        let z : is_word (get_or s i 0) ≡ false = wordless _ r e h in
-        rw (drop_next k j hj, drop_next s i hi, lead_word, z)
+-- behind the keyword: r is the class of the next byte, or the text ends
+pub begun_in : (k s : List ℕ) (r : ℕ) → starts_with k (lead_word s) ≡ true → length k < length s → r ≡ class_of (get_or s (length k) 0) → same_word (lead_word s) k ≡ ltb 16 r
+unfolding starts_with lead_word same_word is_word
+begun_in k [] r e h c = absurd (omega arith)
+begun_in [] (x ∷ s) r e h c = rw c (go (leb (class_of x) 16) refl)
+  where
+    go : (b : Bool) → leb (class_of x) 16 ≡ b → same_word (elim b [ true ↦ x ∷ lead_word s | false ↦ [] ]) [] ≡ ltb 16 (class_of x)
+    go true t = sym (le-ltb 16 _ (leb-true _ 16 t))
+    go false t = sym (lt-ltb 16 _ (leb-false _ 16 t))
+begun_in (y ∷ k) (x ∷ s) r e h c = go (leb (class_of x) 16) (λ u. begun_in k s r u (omega arith) c) e
+  where
+    go : (b : Bool) → (starts_with k (lead_word s) ≡ true → same_word (lead_word s) k ≡ ltb 16 r) → starts_with (y ∷ k) (elim b [ true ↦ x ∷ lead_word s | false ↦ [] ]) ≡ true → same_word (elim b [ true ↦ x ∷ lead_word s | false ↦ [] ]) (y ∷ k) ≡ ltb 16 r
+    go true i t =
+        let u = both_true (eqb y x) (starts_with k (lead_word s)) t in
+        let q : x ≡ y = sym (eqb-true y x u.0) in
+        rw (eq-eqb x y q) (i u.1)
+    go false i t = no_bool t
 
-    pub word_more : (r : ℕ) → r ≡ class_of (get_or s i 0) → r ≤ 16 → get_or s i 0 ≡ get_or k j 0 → same_word (lead_word (drop i s)) (drop j k) ≡ same_word (lead_word (drop (i + 1) s)) (drop (j + 1) k)
-    unfolding same_word lead_word
-    word_more r e h q =
-        let z : is_word (get_or s i 0) ≡ true = wordy _ r e h in
-        rw (drop_next k j hj, drop_next s i hi, lead_word, z, eq-eqb _ _ q)
-
--- past the end of the text there is no word
-pub no_word : (s k : List ℕ) (i : ℕ) → length s ≤ i → same_word (lead_word (drop i s)) k ≡ eqb (length k) 0
-unfolding same_word lead_word
-no_word s [] i h = rw (drop_of_length-le s h) refl
-no_word s (x ∷ k) i h = rw (drop_of_length-le s h) (sym (ne_eqb _ _ (λ e. omega arith)))
-
--- behind the keyword
-module _ (k s : List ℕ) (j i : ℕ) (hj : length k ≤ j) where
-  word_end_in : (r : ℕ) → i < length s → r ≡ class_of (get_or s i 0) → same_word (lead_word (drop i s)) (drop j k) ≡ ltb 16 r
-  unfolding is_word lead_word same_word
-  word_end_in r hi e = rw (drop_of_length-le k hj, drop_next s i hi, e) (go (leb (class_of (get_or s i 0)) 16) (class_of (get_or s i 0)) refl)
-    where
-      go : (b : Bool) (c : ℕ) → leb c 16 ≡ b → same_word (elim b [ true ↦ get_or s i 0 ∷ lead_word (drop (i + 1) s) | false ↦ [] ]) [] ≡ ltb 16 c
-      go true c t = sym (le-ltb 16 c (leb-true c 16 t))
-      go false c t = sym (lt-ltb 16 c (leb-false c 16 t))
-
-  word_end_out : length s ≤ i → same_word (lead_word (drop i s)) (drop j k) ≡ true
-  unfolding same_word lead_word
-  word_end_out hi = rw (drop_of_length-le k hj, drop_of_length-le s hi)
+pub begun_out : (k s : List ℕ) → starts_with k (lead_word s) ≡ true → length s ≤ length k → same_word (lead_word s) k ≡ true
+unfolding starts_with lead_word same_word is_word
+begun_out [] [] e h = refl
+begun_out [] (x ∷ s) e h = absurd (omega arith)
+begun_out (y ∷ k) [] e h = no_bool e
+begun_out (y ∷ k) (x ∷ s) e h = go (leb (class_of x) 16) (λ u. begun_out k s u (omega arith)) e
+  where
+    go : (b : Bool) → (starts_with k (lead_word s) ≡ true → same_word (lead_word s) k ≡ true) → starts_with (y ∷ k) (elim b [ true ↦ x ∷ lead_word s | false ↦ [] ]) ≡ true → same_word (elim b [ true ↦ x ∷ lead_word s | false ↦ [] ]) (y ∷ k) ≡ true
+    go true i t =
+        let u = both_true (eqb y x) (starts_with k (lead_word s)) t in
+        let q : x ≡ y = sym (eqb-true y x u.0) in
+        rw (eq-eqb x y q) (i u.1)
+    go false i t = no_bool t
 
 -- where a loop over the places from `at` on ends, which an automaton has passed from there
 pub end_at : (f : ℕ → ℕ → Option ℕ) (q : ℕ) (s : List ℕ) {at i m : ℕ} → at ≤ i → length s ≤ i → m ≡ max at (length s) → at + scan_len f q (drop at s) ≡ i → m ≡ i
@@ -104,17 +117,6 @@ end_at f q s {at} {i} {m} l h e g =
     let b : length s ≤ max at (length s) = le-max_right at (length s) in
     let c : max at (length s) ≤ i = max-le l h in
     omega (arith, scan_len_le f q (drop at s), length-drop at s)
-
-module _ (k s : List ℕ) (j at : ℕ) (l : length k ≤ j) (m : j ≤ length k) where
-  -- behind the keyword, where the loop over it has ended
-  all_read : j ≡ length k
-  all_read = omega arith
-
-  pub word_ended_in : (r : ℕ) → at + length k < length s → r ≡ class_of (get_or s (at + length k) 0) → same_word (lead_word (drop (at + j) s)) (drop j k) ≡ ltb 16 r
-  word_ended_in r h e = rw all_read (word_end_in k s (length k) (at + length k) (omega arith) r h e)
-
-  pub word_ended_out : length s ≤ at + length k → same_word (lead_word (drop (at + j) s)) (drop j k) ≡ true
-  word_ended_out h = rw all_read (word_end_out k s (length k) (at + length k) (omega arith) h)
 
 -- an automaton and the state in which it stops
 pub record Going (f : ℕ → ℕ → Option ℕ) (text : List ℕ) (at i q : ℕ) : Type 0 where

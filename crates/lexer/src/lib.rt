@@ -65,7 +65,7 @@ pub struct Stop {
     pub q: u8,
 }
 
-// One more, up to 2^32.
+// One more, up to 2^32. A step of std saturates at the type's end, which is further.
 pub fn bump(w: usize) -> usize
     ensures { result ≡ bumped w }
 {
@@ -133,24 +133,12 @@ pub fn at_byte(text: &[u8], at: usize, b: u8) -> bool
     }
 }
 
-// Does the keyword kw stand at `at`? A byte that differs is seen before its class is asked for.
+// Does the keyword kw stand at `at`? Behind it stands the text's end or a byte of no word.
 fn at_word(text: &[u8], at: usize, kw: &[u8]) -> bool
     ensures { result ≡ same_word (lead_word (drop at text.now)) kw.now }
 {
-    if text.len() < at {
-        return kw.is_empty();
-    }
-    for j in 0..kw.len() {
-        if text.len() - at <= j {
-            return false;
-        }
-        let b = text[at + j];
-        if b != kw[j] {
-            return false;
-        }
-        if limits::WORD < class(b) {
-            return false;
-        }
+    if !tests::starts_at(text, at, kw) {
+        return false;
     }
     match text.get(at + kw.len()) {
         Some(b) => limits::WORD < class(*b),

@@ -9,7 +9,7 @@ use crate::limits::{DIGIT, WORD};
 use crate::{Parsed, class};
 
 // Does the word at `at` begin with kw? A byte that differs is seen before its class is asked for.
-fn starts_at(text: &[u8], at: usize, kw: &[u8]) -> bool
+pub(crate) fn starts_at(text: &[u8], at: usize, kw: &[u8]) -> bool
     ensures { result ≡ starts_with kw.now (lead_word (drop at text.now)) }
 {
     if text.len() < at {

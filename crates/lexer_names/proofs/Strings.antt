@@ -8,10 +8,9 @@ use native.Mathlib.Nat.{add-zero}
 use native.Mathlib.Omega.{arith}
 use lib.ListN.{length, get_or, take, drop, length-drop}
 use lib.Seq.{length-take-le, take-take}
-use lib.Dec.{leb, eqb}
-use borrow.Author.Tests.{le-leb, lt-leb, eq-eqb, ne_eqb}
+use lib.Dec.{eqb}
+use borrow.Author.Tests.{eq-eqb, ne_eqb}
 use Rattle.program.specs.Choice.{pick}
-use Rattle.program.specs.Class.{class_of, is_name}
 use Rattle.program.specs.Prog.{ret, fail, here, scan, ok, no_at, run, byte_at, scan_len}
 use Rattle.program.specs.Local.{scan_len_le}
 use Rattle.records.specs.Words.{pack}
@@ -25,20 +24,6 @@ use Rattle.lexer.specs.declared.Stop.{Stop}
 use Rattle.program.specs.Lists.{drop_next}
 use Rattle.lexer.proofs.Scan.{scan_some, scan_stop, byte_inside, byte_in}
 use Rattle.lexer.proofs.Laws.{bump_in, byte_run, run_eat, scan_run, some_byte, given, gone, kept, g_done}
-
--- ---- unquoted: r is the class of the byte at i
-module _ (s : List ℕ) (i r : ℕ) (h : i < length s) (e : r ≡ class_of (get_or s i 0)) where
-  pub name_stop : 17 < r → i + scan_len name_step 0 (drop i s) ≡ i
-  unfolding scan_len name_step is_name
-  name_stop k =
-      let z : leb (class_of (get_or s i 0)) 17 ≡ false = rw (← e, lt-leb _ _ k) in
-      rw (drop_next s i h, scan_len, name_step, is_name, z) (omega arith)
-
-  pub name_more : r ≤ 17 → i + scan_len name_step 0 (drop i s) ≡ i + 1 + scan_len name_step 0 (drop (i + 1) s)
-  unfolding scan_len name_step is_name
-  name_more k =
-      let z : leb (class_of (get_or s i 0)) 17 ≡ true = rw (← e, le-leb _ _ k) in
-      rw (drop_next s i h, scan_len, name_step, is_name, z) (omega arith)
 
 -- ---- up to the byte that closes
 module _ (l r : ℕ) (s : List ℕ) (i q : ℕ) (h : i < length s) where

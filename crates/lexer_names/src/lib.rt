@@ -32,16 +32,22 @@ pub struct Letter {
     pub next: usize,
 }
 
+// A name without quotes: the one state, or none at a byte of no name.
+fn name_step(q: u8, b: u8) -> Option<u8>
+    ensures { step_of result ≡ name_step q b }
+{
+    if lexer::class(b) <= limits::NAME {
+        Some(0)
+    } else {
+        None
+    }
+}
+
 // The place behind the name that stands at `at`.
 fn name_end(text: &[u8], at: usize) -> usize
     ensures { result ≡ at + scan_len name_step 0 (drop at text.now) }
 {
-    for i in at..text.len() {
-        if limits::NAME < lexer::class(text[i]) {
-            return i;
-        }
-    }
-    at.max(text.len())
+    scan_text(text, at, name_step).at
 }
 
 // Between quotes: the state behind b, which is 1 behind `\` and 2 behind its first digit, or none where they end.

@@ -3,7 +3,7 @@
 // tools/same-numbers holds code, definitions and header against each other.
 #![tactic(auto)]
 
-// Kinds of nodes.
+// Kinds of nodes. Numbers and no enum, here and below: `node_words::close` and `lexer::refuse` take any number, and the calls from C hand them out.
 // `Type`
 pub const K_VOID: u8 = 1;
 

@@ -20,10 +20,7 @@ pub struct Listed {
 pub fn one_more(n: u16) -> u16
     ensures { n < 65535 → result ≡ n + 1 }
 {
-    if n < records::CHILD_LIMIT {
-        return n + 1;
-    }
-    n
+    n.saturating_add(1)
 }
 
 // What a type refuses with where none begins.
