@@ -28,14 +28,14 @@ use Rattle.piece_directory.specs.Piece.{BlockIs, is_block, is_tail_lem, no_block
 use Rattle.std.specs.Prelude.{Result}
 use Rattle.records.specs.declared.Refusal.{Refusal}
 use Rattle.piece_directory.specs.declared.pieces.Piece.{Piece}
-use Rattle.piece_block.specs.Stated.{Which, a_label, an_instruction, a_terminator, StatementEnds, stated_at, no_statement, stated}
+use Rattle.piece_block.specs.Stated.{Which, a_label, an_instruction, a_terminator, StatementEnds, stated_at, no_statement, stated_by}
 use Rattle.piece_block.specs.Bodied.{BodyEnds, through, shut, no_body, bodied}
 use Rattle.piece_close.specs.Pieces.{piece_of, tail_of}
 
 -- ---- a statement, then the rest
 -- which hands a refusal on
 statement_then : {B : Type 0} {f : Prog Statement} (h : Statement → Prog B) {kind m d c : ℕ} {mid : List ℕ} {E : Goal B} {text : List ℕ} {p0 p p1 p' : Parsed} {w w1 w' : List ℕ}
-    → Leads f 0 [] (richly text (stated kind m d text p)) text p p w p1 w1 → ((e q : ℕ) → p1 ≡ Refused e q → p' ≡ Refused e q) → ((s : Statement) (ws : List ℕ) → Which kind m d s ws → Leads (h s) c (mid ++ ws) (richly text E) text p0 p1 w1 p' w') → Leads (f >>= h) c mid (richly text E) text p0 p w p' w'
+    → Leads f 0 [] (richly text (stated_by kind m d text p)) text p p w p1 w1 → ((e q : ℕ) → p1 ≡ Refused e q → p' ≡ Refused e q) → ((s : Statement) (ws : List ℕ) → Which kind m d s ws → Leads (h s) c (mid ++ ws) (richly text E) text p0 p1 w1 p' w') → Leads (f >>= h) c mid (richly text E) text p0 p w p' w'
 unfolding after
 statement_then {B} {f} h {kind} {m} {d} {c} {mid} {E} {text} {p0} {p} {p1} {p'} {w} {w1} {w'} r o s = record {
   runs = λ b low k cur e a x. subst (λ (z : Res B). E.ends b k low z p' w') (sym (bind_at f h text cur.at)) (go b low k a x o s (r.runs b (low ++ mid) (c + k) cur e (at_less (0 + (c + k)) (omega arith) (at_part e a)) x));
@@ -47,7 +47,7 @@ statement_then {B} {f} h {kind} {m} {d} {c} {mid} {E} {text} {p0} {p} {p1} {p'} 
     go b low k a x u t (no_statement {e = e} {q = q}) = rw (u e q refl) (E.outs b k low e q w')
 
 module _ {B : Type 0} {f : Prog Statement} (h : Statement → Prog B) {kind m d c : ℕ} {mid : List ℕ} {E : Goal B} {text : List ℕ} {p0 p p1 p' : Parsed} {w w1 w' : List ℕ} where
-  pub then_label : Leads f 0 [] (richly text (stated kind m d text p)) text p p w p1 w1 → kind ≡ 0 → Leads (h (label d m)) c mid (richly text E) text p0 p1 w1 p' w' → Leads (f >>= h) c mid (richly text E) text p0 p w p' w'
+  pub then_label : Leads f 0 [] (richly text (stated_by kind m d text p)) text p p w p1 w1 → kind ≡ 0 → Leads (h (label d m)) c mid (richly text E) text p0 p1 w1 p' w' → Leads (f >>= h) c mid (richly text E) text p0 p w p' w'
   then_label r e k = statement_then h r k.hands (λ s ws x. go s ws x)
     where
       go : (s : Statement) (ws : List ℕ) → Which kind m d s ws → Leads (h s) c (mid ++ ws) (richly text E) text p0 p1 w1 p' w'
@@ -55,7 +55,7 @@ module _ {B : Type 0} {f : Prog Statement} (h : Statement → Prog B) {kind m d 
       go s ws (an_instruction x) = absurd (omega arith)
       go s ws (a_terminator x) = absurd (omega arith)
 
-  pub then_instruction : Leads f 0 [] (richly text (stated kind m d text p)) text p p w p1 w1 → kind ≡ 1 → ((ws : List ℕ) → Leads (h (instruction d ws)) c (mid ++ ws) (richly text E) text p0 p1 w1 p' w') → Leads (f >>= h) c mid (richly text E) text p0 p w p' w'
+  pub then_instruction : Leads f 0 [] (richly text (stated_by kind m d text p)) text p p w p1 w1 → kind ≡ 1 → ((ws : List ℕ) → Leads (h (instruction d ws)) c (mid ++ ws) (richly text E) text p0 p1 w1 p' w') → Leads (f >>= h) c mid (richly text E) text p0 p w p' w'
   then_instruction r e k = statement_then h r (k []).hands (λ s ws x. go s ws x)
     where
       go : (s : Statement) (ws : List ℕ) → Which kind m d s ws → Leads (h s) c (mid ++ ws) (richly text E) text p0 p1 w1 p' w'
@@ -63,7 +63,7 @@ module _ {B : Type 0} {f : Prog Statement} (h : Statement → Prog B) {kind m d 
       go s ws (an_instruction x) = k ws
       go s ws (a_terminator x) = absurd (omega arith)
 
-  pub then_terminator : Leads f 0 [] (richly text (stated kind m d text p)) text p p w p1 w1 → (kind ≡ 0 → ⊥) → (kind ≡ 1 → ⊥) → ((ws : List ℕ) → Leads (h (terminator d ws)) c (mid ++ ws) (richly text E) text p0 p1 w1 p' w') → Leads (f >>= h) c mid (richly text E) text p0 p w p' w'
+  pub then_terminator : Leads f 0 [] (richly text (stated_by kind m d text p)) text p p w p1 w1 → (kind ≡ 0 → ⊥) → (kind ≡ 1 → ⊥) → ((ws : List ℕ) → Leads (h (terminator d ws)) c (mid ++ ws) (richly text E) text p0 p1 w1 p' w') → Leads (f >>= h) c mid (richly text E) text p0 p w p' w'
   then_terminator r e i k = statement_then h r (k []).hands (λ s ws x. go s ws x)
     where
       go : (s : Statement) (ws : List ℕ) → Which kind m d s ws → Leads (h s) c (mid ++ ws) (richly text E) text p0 p1 w1 p' w'
@@ -125,10 +125,10 @@ module _ {f : Prog (List ℕ)} {text w0 w : List ℕ} {p0 q q1 : Parsed} (left x
   unfolding parse_body
   body_tail e y i = go_on_rich inv (λ ws. more (λ u. parse_body u x l n over ws) left some (val _ space (enrich (brace_yes x l n over _ e y i))))
 
-  module _ {kind m d : ℕ} {r : Bool} {q2 : Parsed} {w2 : List ℕ} (e : r ≡ looks_p text q1 125) (y : r ≡ false) (s : Leads (parse_statement (in_block x l n)) 0 [] (richly text (stated kind m d text q1)) text q1 q1 w q2 w2) where
-    pub body_label : kind ≡ 0 → Leads f 0 [] (richly text (reach (parse_body (left - 1) d m n over) text p0)) text p0 p0 w0 q2 w2
+  module _ {kind m d : ℕ} {r : Bool} {q2 : Parsed} {w2 : List ℕ} (e : r ≡ looks_p text q1 125) (y : r ≡ false) (s : Leads (parse_statement (in_block x l n)) 0 [] (richly text (stated_by kind m d text q1)) text q1 q1 w q2 w2) where
+    pub body_label : (v : ℕ) → kind ≡ 0 → m ≡ v → Leads f 0 [] (richly text (reach (parse_body (left - 1) d v n over) text p0)) text p0 p0 w0 q2 w2
     unfolding parse_body
-    body_label t = go_on_rich inv (λ ws. more (λ u. parse_body u x l n over ws) left some (val _ space (brace_no [] e y (then_label _ s t (place_then _ (λ j. enrich (stay (parse_body (left - 1) d m n over))))))))
+    body_label v t o = subst (λ (v : ℕ). Leads f 0 [] (richly text (reach (parse_body (left - 1) d v n over) text p0)) text p0 p0 w0 q2 w2) o (go_on_rich inv (λ ws. more (λ u. parse_body u x l n over ws) left some (val _ space (brace_no [] e y (then_label _ s t (place_then _ (λ j. enrich (stay (parse_body (left - 1) d m n over)))))))))
 
     pub body_instruction : (j over2 : ℕ) → kind ≡ 1 → j ≡ place_p q2 → over2 ≡ over_at n over j → Leads f 0 [] (richly text (reach (parse_body (left - 1) d l (n + 1) over2) text p0)) text p0 p0 w0 q2 w2
     unfolding parse_body

@@ -22,7 +22,7 @@ use Rattle.lexer.proofs.Laws.{g_done, done, same_word_lem, after, bind_at, true_
 use Rattle.lexer_names.proofs.Passed.{word_long}
 use Rattle.inst_operands.specs.Rich.{richly}
 use Rattle.inst_operands.proofs.RichLaws.{enrich, then_rich}
-use Rattle.piece_block.specs.Stated.{Which, a_label, an_instruction, StatementEnds, stated_at, no_statement, stated}
+use Rattle.piece_block.specs.Stated.{Which, a_label, an_instruction, StatementEnds, stated_at, no_statement, stated_by}
 
 -- ---- opcodes
 pub above : {k r : ℕ} → k ≤ r → (r ≡ k → ⊥) → k + 1 ≤ r
@@ -47,7 +47,7 @@ rank_same w kw t e i y = e ∙ ap (λ (v : List ℕ). rank v t) (sym (same_word_
 
 -- ---- statements
 -- what a statement gives, as the code says it
-pub is_stated : (s : Statement) {kind m d c : ℕ} {mid : List ℕ} {text : List ℕ} {p0 p : Parsed} {w : List ℕ} → Which kind m d s mid → Leads (ret s) c mid (stated kind m d text p0) text p0 p w p w
+pub is_stated : (s : Statement) {kind m d c : ℕ} {mid : List ℕ} {text : List ℕ} {p0 p : Parsed} {w : List ℕ} → Which kind m d s mid → Leads (ret s) c mid (stated_by kind m d text p0) text p0 p w p w
 unfolding run
 is_stated s {kind} {m} {d} {c} {mid} {text} {p0} {p} {w} h = record {
   runs = λ b low k cur e a. subst (λ (z : Parsed). StatementEnds kind m d b text p0 k low (ok s cur.at) z w) (sym e) (stated_at h (at_less k (omega arith) a));
@@ -55,7 +55,7 @@ is_stated s {kind} {m} {d} {c} {mid} {text} {p0} {p} {w} h = record {
 }
 
 -- an instruction behind its `%`
-pub call_instruction : {f : Prog Statement} {c : ℕ} (m d : ℕ) {text : List ℕ} {p0 p p' : Parsed} {w w' : List ℕ} → Leads f c [] (richly text (made (instruction d) text p)) text p p w p' w' → Leads f c [] (richly text (stated 1 m d text p0)) text p0 p w p' w'
+pub call_instruction : {f : Prog Statement} {c : ℕ} (m d : ℕ) {text : List ℕ} {p0 p p' : Parsed} {w w' : List ℕ} → Leads f c [] (richly text (made (instruction d) text p)) text p p w p' w' → Leads f c [] (richly text (stated_by 1 m d text p0)) text p0 p w p' w'
 call_instruction {f} {c} m d {text} {p0} {p} {p'} {w} {w'} r = record {
   runs = λ b low k cur e a x. go b low k a (r.runs b (low ++ []) k cur e (at_part e a) x);
   hands = r.hands;
@@ -79,7 +79,7 @@ raw_size raw = go (is_quoted raw)
     go true = omega (arith, take_le (length raw - 2) (drop 1 raw), length-drop 1 raw)
     go false = omega arith
 
-pub is_label : {c : ℕ} {text : List ℕ} {p0 p : Parsed} {w : List ℕ} (d i n m from to : ℕ) → n ≡ to - from → size_of (raw_word (part text from to)) ≡ to - from → i ≤ 16777216 → (i < 4294967296 → n < 4294967296 → m ≡ pack i n) → Leads (ret (label d (pack i (size_of (raw_word (part text from to)))))) c [] (stated 0 m d text p0) text p0 p w p w
+pub is_label : {c : ℕ} {text : List ℕ} {p0 p : Parsed} {w : List ℕ} (d i n m from to : ℕ) → n ≡ to - from → size_of (raw_word (part text from to)) ≡ to - from → i ≤ 16777216 → (i < 4294967296 → n < 4294967296 → m ≡ pack i n) → Leads (ret (label d (pack i (size_of (raw_word (part text from to)))))) c [] (stated_by 0 m d text p0) text p0 p w p w
 is_label {c} {text} {p0} {p} {w} d i n m from to e s l f = record {
   runs = λ b low k cur t a.
       let o : length (part text from to) ≤ length (drop from text) = take_le (to - from) (drop from text) in

@@ -7,10 +7,23 @@ use Rattle.grammar.specs.Body.{Statement, label, instruction, terminator, Where,
 use Rattle.lexer.specs.Reads.{Budget, At, Goal}
 use Rattle.lexer.specs.declared.Cursor.{Cursor}
 use Rattle.lexer.specs.Parsed.{Parsed, Ok, Refused}
+use Rattle.piece_block.specs.declared.statements.Kind.{Kind}
+use Rattle.piece_block.specs.declared.statements.Kind.TheVariants.{Label, Instruction, Terminator}
 
 -- a statement that does not begin with `%`, from place i on
 abbrev pub word_statement : ℕ → Where → Prog Statement
 word_statement i b = read_word >>= λ w. statement_of i b w
+
+-- the code's kinds by number, and a label's word
+abbrev pub number : Kind → ℕ
+number (Label m) = 0
+number Instruction = 1
+number Terminator = 2
+
+abbrev pub word_in : Kind → ℕ
+word_in (Label m) = m
+word_in Instruction = 0
+word_in Terminator = 0
 
 -- A statement as the code has it, the counter c behind it, and the words that it wrote: 0 a label, which is m and writes nothing, 1 an instruction,
 -- 2 a terminator.
@@ -23,5 +36,8 @@ pub data StatementEnds (kind m c : ℕ) (b : Budget) (text : List ℕ) (p0 : Par
   stated_at : {s : Statement} {ws : List ℕ} {cur : Cursor} {words : List ℕ} → Which kind m c s ws → At b text p0 k low ws cur words → StatementEnds kind m c b text p0 k low (ok s cur.at) (Ok cur) words
   no_statement : {e q : ℕ} {words : List ℕ} → StatementEnds kind m c b text p0 k low (no_at e q) (Refused e q) words
 
-abbrev pub stated : (kind m c : ℕ) → List ℕ → Parsed → Goal Statement
-stated kind m c text p0 = record { ends = λ b k low r p words. StatementEnds kind m c b text p0 k low r p words; outs = λ b k low e q words. no_statement }
+abbrev pub stated_by : (kind m c : ℕ) → List ℕ → Parsed → Goal Statement
+stated_by kind m c text p0 = record { ends = λ b k low r p words. StatementEnds kind m c b text p0 k low r p words; outs = λ b k low e q words. no_statement }
+
+abbrev pub stated : Kind → (c : ℕ) → List ℕ → Parsed → Goal Statement
+stated k c = stated_by (number k) (word_in k) c

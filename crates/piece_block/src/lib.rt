@@ -14,7 +14,7 @@ ghost use Rattle.piece_directory.specs.Piece.{BlockIs};
 ghost use Rattle.piece_block.specs.Bodied.{bodied};
 ghost use Rattle.piece_block.specs.Part.{BlockIn, BlockDry};
 
-use crate::statements::Within;
+use crate::statements::{Kind, Within};
 use lexer::{Cursor, Parsed};
 use piece_directory::pieces::{Piece, Spot};
 use records::Refusal;
@@ -55,19 +55,20 @@ fn parse_body(text: &[u8], words: &mut [u64], p: Parsed, counter: u64) -> Body
         let s = statements::parse_statement(text, words, r, Within { c, label, n });
         let r2 = s.p;
         let r3 = lexer::anew(r2);
-        let kind = s.kind;
-        if kind == statements::LABEL {
-            q = r3;
-            c = s.c;
-            label = s.label;
-        } else {
-            if kind == statements::INSTRUCTION {
+        match s.kind {
+            Kind::Label(word) => {
+                q = r3;
+                c = s.c;
+                label = word;
+            }
+            Kind::Instruction => {
                 let at = lexer::place(r3);
                 q = r3;
                 c = s.c;
                 over = piece_close::over_at(n, over, at);
                 n += 1;
-            } else {
+            }
+            Kind::Terminator => {
                 return Body {
                     p: r3,
                     tail: false,

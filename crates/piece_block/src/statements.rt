@@ -10,19 +10,19 @@ use crate::opcodes;
 use lexer::Parsed;
 use piece_counter::Counter;
 
-// Which a statement is.
-pub const LABEL: u8 = 0;
+// Which a statement is; a label's word.
+#[derive(Clone, Copy)]
+pub enum Kind {
+    Label(u64),
+    Instruction,
+    Terminator,
+}
 
-pub const INSTRUCTION: u8 = 1;
-
-pub const TERMINATOR: u8 = 2;
-
-// Where the reader is behind a statement, and which it was; a label's word; the counter.
+// Where the reader is behind a statement, and which it was; the counter.
 #[derive(Clone, Copy)]
 pub struct Stated {
     pub p: Parsed,
-    pub kind: u8,
-    pub label: u64,
+    pub kind: Kind,
     pub c: u64,
 }
 
@@ -78,7 +78,7 @@ fn parse_inst(text: &[u8], words: &mut [u64], p: Parsed, c: u64) -> Counter
 // A label, an instruction without a destination, or a terminator, whose first byte is at `at`. At a refusal it is none of the first two, so that a
 // body ends there.
 fn word_statement(text: &[u8], words: &mut [u64], p: Parsed, at: usize, b: Within) -> Stated
-    ensures { at ≤ 16777216 → Leads (word_statement at (in_block b.c b.label b.n)) 0 [] (richly text.now (stated result.kind result.label result.c text.now p)) text.now p p words.old result.p words.new }
+    ensures { at ≤ 16777216 → Leads (word_statement at (in_block b.c b.label b.n)) 0 [] (richly text.now (stated result.kind result.c text.now p)) text.now p p words.old result.p words.new }
 {
     let x = lexer_names::read_word(text, p);
     let q = x.p;
@@ -86,8 +86,7 @@ fn word_statement(text: &[u8], words: &mut [u64], p: Parsed, at: usize, b: Withi
         let q1 = lexer::refuse(q, records::Q_STATEMENT);
         return Stated {
             p: q1,
-            kind: TERMINATOR,
-            label: 0,
+            kind: Kind::Terminator,
             c: 0,
         };
     }
@@ -100,8 +99,7 @@ fn word_statement(text: &[u8], words: &mut [u64], p: Parsed, at: usize, b: Withi
         let label = lexer_names::pack_word(at, n);
         return Stated {
             p: q3,
-            kind: LABEL,
-            label,
+            kind: Kind::Label(label),
             c: d.c,
         };
     }
@@ -113,8 +111,7 @@ fn word_statement(text: &[u8], words: &mut [u64], p: Parsed, at: usize, b: Withi
         let q5 = opcodes::terminator(text, words, q4, r);
         return Stated {
             p: q5,
-            kind: TERMINATOR,
-            label: 0,
+            kind: Kind::Terminator,
             c,
         };
     }
@@ -122,15 +119,14 @@ fn word_statement(text: &[u8], words: &mut [u64], p: Parsed, at: usize, b: Withi
     let q6 = y.p;
     Stated {
         p: q6,
-        kind: INSTRUCTION,
-        label: 0,
+        kind: Kind::Instruction,
         c: y.c,
     }
 }
 
 // One statement of a block that is there.
 pub fn parse_statement(text: &[u8], words: &mut [u64], p: Parsed, b: Within) -> Stated
-    ensures { Leads (parse_statement (in_block b.c b.label b.n)) 0 [] (richly text.now (stated result.kind result.label result.c text.now p)) text.now p p words.old result.p words.new }
+    ensures { Leads (parse_statement (in_block b.c b.label b.n)) 0 [] (richly text.now (stated result.kind result.c text.now p)) text.now p p words.old result.p words.new }
 {
     let at = lexer::place(p);
     if lexer::looks(text, p, b'%') {
@@ -141,8 +137,7 @@ pub fn parse_statement(text: &[u8], words: &mut [u64], p: Parsed, b: Within) -> 
         let q2 = x.p;
         return Stated {
             p: q2,
-            kind: INSTRUCTION,
-            label: 0,
+            kind: Kind::Instruction,
             c: x.c,
         };
     }
