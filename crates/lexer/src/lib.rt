@@ -20,7 +20,7 @@ use records::Refusal;
 
 // The class of each byte: below HEX a hexadecimal digit and its value, WORD any other letter or `_`, NAME one of `.` `-` `$`, SPACE white space,
 // OTHER any other.
-static CLASSES: [u8; 256] = [
+pub static CLASSES: [u8; 256] = [
     19, 19, 19, 19, 19, 19, 19, 19, 19, 18, 18, 19, 18, 18, 19, 19, 19, 19, 19, 19, 19, 19, 19, 19,
     19, 19, 19, 19, 19, 19, 19, 19, 18, 19, 19, 19, 17, 19, 19, 19, 19, 19, 19, 19, 19, 17, 17, 19,
     0, 1, 2, 3, 4, 5, 6, 7, 8, 9, 19, 19, 19, 19, 19, 19, 19, 10, 11, 12, 13, 14, 15, 16, 16, 16,

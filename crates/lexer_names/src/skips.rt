@@ -2,13 +2,13 @@
 ghost use Rattle.std.specs.Prelude.{◌≡◌, ◌+◌, ◌≤◌, drop};
 ghost use Rattle.program.specs.Prog.{scan_len};
 ghost use Rattle.grammar.specs.Lexer.{balance_step, balanced, skip_parens, skip_metadata_ref, three_dots, cstring_step, cstring_at};
-ghost use Rattle.lexer.specs.Step.{step_of};
+ghost use Rattle.lexer.specs.Step.{step_of, StopAt};
 ghost use Rattle.lexer.specs.Parsed.{Ok};
 ghost use Rattle.lexer.specs.Reads.{Gives};
 ghost use Rattle.lexer_names.specs.Names.{not_closed};
 
 use crate::{pack_word, read_word};
-use lexer::{Cursor, Num, Parsed, limits, scan_text};
+use lexer::{Cursor, Num, Parsed, Stop, limits, scan_text};
 use records::Refusal;
 
 // The place of the byte that closes what is open at `at`.
@@ -120,11 +120,19 @@ pub fn cstring_step(q: u8, b: u8) -> Option<u8>
     None
 }
 
+// Where a byte string stops that begins there. A function of its own: in the midst of a reader the loop is compiled to half its speed.
+#[inline(never)]
+fn cstring_end(text: &[u8], at: usize) -> Stop
+    ensures { StopAt cstring_step text.now at result }
+{
+    scan_text(text, at, cstring_step)
+}
+
 // A byte string at the cursor, behind its quote, which is at `at`. Where an escape is cut off the byte behind the cursor is taken before the refusal.
 fn cstring_in(text: &[u8], c: Cursor, at: usize) -> Num
     ensures { at ≤ 16777216 → Gives (cstring_at at) result.v text.now (Ok c) result.p }
 {
-    let x = scan_text(text, c.at, cstring_step);
+    let x = cstring_end(text, c.at);
     if x.q == 0 {
         if lexer::at_byte(text, x.at, b'"') {
             let n = x.at.saturating_sub(c.at);

@@ -91,7 +91,13 @@ fn bare(raw: &[u8]) -> &[u8]
 pub fn same_name(a: &[u8], b: &[u8]) -> bool
     ensures { result ≡ same_name (raw_word a.now) (raw_word b.now) }
 {
-    same_spelling(bare(a), is_quoted(a), bare(b), is_quoted(b))
+    let qa = is_quoted(a);
+    let qb = is_quoted(b);
+    if qa || qb {
+        return same_spelling(bare(a), qa, bare(b), qb);
+    }
+    // nearly always: another length, and then another byte, is seen at once
+    a == b
 }
 
 // Does the word that stands from a place to another spell kw? Nearly always it has no quotes.

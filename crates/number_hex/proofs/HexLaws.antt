@@ -7,8 +7,8 @@ use Prim.Native.Nat.{ℕ, ◌+◌, ◌≤◌, ◌<◌}
 use lib.Dec.{eqb}
 use borrow.Author.Tests.{lt-ltb, le-ltb}
 use lib.ListN.{length, drop, get_or}
-use Rattle.std.specs.Prelude.{max}
-use Rattle.std.proofs.Common.{Option, Some, None}
+use Rattle.std.specs.Prelude.{max, Result}
+use Rattle.std.proofs.Common.{Option}
 use Rattle.program.specs.Class.{class_of, inside, is_hex}
 use Rattle.program.specs.Prog.{Prog, ret, scan, run, ok, ◌>>=◌, scan_len}
 use Rattle.grammar.specs.Lexer.{refuse}
@@ -16,7 +16,7 @@ use Rattle.grammar.specs.Numbers.{hex_step, hex_of, widen, parse_hex_float, pars
 use Rattle.lexer.specs.Step.{taken, refused}
 use Rattle.lexer.specs.Reads.{Gives}
 use Rattle.lexer.specs.declared.Cursor.{Cursor}
-use Rattle.lexer.specs.Parsed.{Parsed, Ok, Refused}
+use Rattle.lexer.specs.Parsed.{Parsed, Ok, Err, Refused}
 use Rattle.lexer.proofs.Laws.{given as from-run, kept, g_then, g_done, g_fail, scan_run}
 use Rattle.number_integers.specs.Hex.{hex_held, hex_folded, hex_pushed, all_hex}
 use Rattle.number_integers.specs.Literals.{bits_in, hex_literal, f0x_literal}
@@ -66,13 +66,13 @@ unfolding hex_folded all_hex
 hex_kept e q h = record { run = []; gives = kept e q; state = h; all = refl }
 
 -- ---- the bits, or none
-pub bits_some : {l : Option ℕ} {text : List ℕ} {p : Parsed} (b : ℕ) → l ≡ Some b → Gives (bits_in l) b text p p
+pub bits_ok : {l : Result ℕ ℕ} {text : List ℕ} {p : Parsed} (b : ℕ) → l ≡ Ok b → Gives (bits_in l) b text p p
 unfolding bits_in
-bits_some {l} {text} {p} b e = subst (λ (x : Option ℕ). Gives (bits_in x) b text p p) (sym e) g_done
+bits_ok {l} {text} {p} b e = subst (λ (x : Result ℕ ℕ). Gives (bits_in x) b text p p) (sym e) g_done
 
-pub bits_none : {l : Option ℕ} {v : ℕ} {text : List ℕ} {p q : Parsed} → l ≡ None → q ≡ refused 7 p → Gives (bits_in l) v text p q
+pub bits_err : {l : Result ℕ ℕ} {v : ℕ} {text : List ℕ} {p q : Parsed} (k : ℕ) → l ≡ Err k → q ≡ refused k p → Gives (bits_in l) v text p q
 unfolding bits_in
-bits_none {l} {v} {text} {p} {q} e i = subst (λ (x : Option ℕ). Gives (bits_in x) v text p q) (sym e) (g_fail 7 i)
+bits_err {l} {v} {text} {p} {q} k e i = subst (λ (x : Result ℕ ℕ). Gives (bits_in x) v text p q) (sym e) (g_fail k i)
 
 -- behind the digits
 abbrev hex_bits : List ℕ → Prog ℕ
@@ -81,7 +81,7 @@ hex_bits w = elim (inside 1 16 (length w)) [ true ↦ ret (hex_of 0 w) | false �
 abbrev f0x_bits : List ℕ → Prog ℕ
 f0x_bits w = elim (eqb (length w) 8) [ true ↦ ret (widen (hex_of 0 w)) | false ↦ elim (eqb (length w) 16) [ true ↦ ret (hex_of 0 w) | false ↦ refuse 7 ] ]
 
-module _ {text : List ℕ} {p q r : Parsed} {h : Option Hex} {l : Option ℕ} {v : ℕ} (a : HexAt text p q h) where
+module _ {text : List ℕ} {p q r : Parsed} {h : Option Hex} {l : Result ℕ ℕ} {v : ℕ} (a : HexAt text p q h) where
   pub bits_hex : l ≡ hex_literal h → Gives (bits_in l) v text q r → Gives parse_hex_float v text p r
   unfolding parse_hex_float ◌>>=◌
   bits_hex e g =

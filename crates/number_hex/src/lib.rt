@@ -54,14 +54,14 @@ fn hex_digits(text: &[u8], p: Parsed) -> HexFolded
     }
 }
 
-// The bits of a float, or question 7.
-fn bits_of(bits: Option<u64>, p: Parsed) -> Num
+// The bits of a float, or the question.
+fn bits_of(bits: Result<u64, u64>, p: Parsed) -> Num
     ensures { (text : List ℕ) → Gives (bits_in bits) result.v text p result.p }
 {
     match bits {
-        Some(v) => Num { p, v },
-        None => {
-            let q = refuse(p, records::Q_LITERAL);
+        Ok(v) => Num { p, v },
+        Err(e) => {
+            let q = refuse(p, e);
             Num { p: q, v: 0 }
         }
     }

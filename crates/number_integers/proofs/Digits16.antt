@@ -11,7 +11,7 @@ use lib.Arith.{digits_lt}
 use lib.Dec.{ltb, eqb, lit<, lit≤}
 use lib.ListN.{length}
 use borrow.Author.Tests.{lt-ltb, le-ltb, le-leb, lt-leb, ltb-true, ltb-false, eqb-true}
-use Rattle.std.proofs.Common.{Some, None}
+use Rattle.std.specs.Prelude.{Ok, Err}
 use Rattle.program.specs.Choice.{pick}
 use Rattle.program.specs.Class.{class_of, inside, is_hex}
 use Rattle.program.specs.Prog.{ret}
@@ -73,7 +73,7 @@ taken_hex : (v n : ℕ) → bits_in (hex_literal (hex_held v n)) ≡ elim (insid
 unfolding bits_in hex_literal hex_held
 taken_hex v n = go (ltb n 17) refl
   where
-    most : (t : Bool) → bits_in (pick t (Some v) None) ≡ elim t [ true ↦ ret v | false ↦ refuse 7 ]
+    most : (t : Bool) → bits_in (pick t (Ok v) (Err 7)) ≡ elim t [ true ↦ ret v | false ↦ refuse 7 ]
     most true = refl
     most false = refl
 

@@ -16,17 +16,17 @@ given (Ok (Int n)) = ret (int (halves n))
 given (Ok (Float b)) = ret (float b)
 given (Err q) = refuse q
 
--- a float's bits as a program, or question 7 at the cursor
-unfoldable pub bits_in : Option ℕ → Prog ℕ
-bits_in (Some b) = ret b
-bits_in None = refuse 7
+-- a float's bits as a program, or the question at the cursor
+unfoldable pub bits_in : Result ℕ ℕ → Prog ℕ
+bits_in (Ok b) = ret b
+bits_in (Err q) = refuse q
 
 -- "`0x` or `0X` takes 1 to 16 hex digits as bits"
-unfoldable pub hex_literal : Option Hex → Option ℕ
-hex_literal None = None
-hex_literal (Some h) = pick (inside 1 16 h.count) (Some h.bits) None
+unfoldable pub hex_literal : Option Hex → Result ℕ ℕ
+hex_literal None = Err 7
+hex_literal (Some h) = pick (inside 1 16 h.count) (Ok h.bits) (Err 7)
 
 -- "`f0x` exactly 8 (binary32 widened) or 16"
-unfoldable pub f0x_literal : Option Hex → Option ℕ
-f0x_literal None = None
-f0x_literal (Some h) = pick (eqb h.count 8) (Some (widen (h.bits % 2 ^ 32))) (pick (eqb h.count 16) (Some h.bits) None)
+unfoldable pub f0x_literal : Option Hex → Result ℕ ℕ
+f0x_literal None = Err 7
+f0x_literal (Some h) = pick (eqb h.count 8) (Ok (widen (h.bits % 2 ^ 32))) (pick (eqb h.count 16) (Ok h.bits) (Err 7))

@@ -65,7 +65,10 @@ pub fn move_words(words: &mut [u64], from: usize, to: usize, n: usize)
     requires { (from + n ≤ length words.old) × (to + n ≤ length words.old) }
     ensures { words.new ≡ paste words.old to (drop from words.old) n }
 {
-    words.copy_within(from..from + n, to);
+    // where they stand there already nothing is to be done: a copy upon itself would go over all of them
+    if from != to {
+        words.copy_within(from..from + n, to);
+    }
 }
 
 // The n entries there come to start there in text and words, one behind the other; each keeps its counter.

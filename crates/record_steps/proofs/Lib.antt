@@ -1,3 +1,4 @@
 pub mod StepLaws
 pub mod PayloadLaws
+pub mod MoveLaws
 pub mod NameLaws

@@ -25,26 +25,20 @@ impl<'a> Handle<'a> {
     pub fn child(&mut self) -> bool
         ensures { Moves (child_of self.old.words.now self.old.at) self.old result self.new }
     {
-        match super::child(self.words, self.at) {
-            Some(to) => {
-                self.at = to;
-                true
-            }
-            None => false,
-        }
+        let at = self.at;
+        let to = super::child_or_stay(self.words, at);
+        self.at = to;
+        to != at
     }
 
     // To the next node below an end, that of a given parent; is there one? Where there is none, the handle stays.
     pub fn next(&mut self, end: usize) -> bool
         ensures { Moves (next_of self.old.words.now self.old.at end) self.old result self.new }
     {
-        match super::next(self.words, self.at, end) {
-            Some(to) => {
-                self.at = to;
-                true
-            }
-            None => false,
-        }
+        let at = self.at;
+        let to = super::next_or_stay(self.words, at, end);
+        self.at = to;
+        to != at
     }
 
     // The name of the node where the handle stands, as a part of the piece's text.

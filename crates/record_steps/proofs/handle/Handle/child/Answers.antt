@@ -1,9 +1,10 @@
--- The step's answer says whether the handle moves.
-use Rattle.record_steps.specs.Moves.{made, stays}
+-- A step that is made goes forward, so the comparison of the places says whether one was made.
+use Rattle.trees.specs.Steps.{child_of}
+use Rattle.record_steps.specs.Bounds.{child_forward}
+use Rattle.record_steps.proofs.MoveLaws.{moves}
 use Rattle.record_steps.proofs.handle.Handle.child.Goals as goal
 
-pub returns-in-Some : goal.returns-in-Some
-returns-in-Some c = rw (← c.child.ensures, c.in-Some.is) made
-
-pub returns-in-None : goal.returns-in-None
-returns-in-None c = rw (← c.child.ensures, c.in-None.is) stays
+pub returns : goal.returns
+returns c =
+    let h = c.args.self.now in
+    moves h (child_of h.words.now h.at) _ c.child_or_stay-to.ensures (λ m i. (child_forward h.words.now h.at m i).0)
