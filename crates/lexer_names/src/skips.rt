@@ -100,21 +100,19 @@ pub fn cstring_step(q: u8, b: u8) -> Option<u8>
     ensures { step_of result ≡ cstring_step q b }
 {
     if q == 0 {
-        if b == b'"' {
-            return None;
-        }
-        if b == b'\\' {
-            return Some(1);
-        }
-        return Some(0);
+        return match b {
+            b'"' => None,
+            b'\\' => Some(1),
+            _ => Some(0),
+        };
     }
-    if q == 1 {
-        if lexer::class(b) < limits::HEX {
+    if lexer::class(b) < limits::HEX {
+        if q == 1 {
             return Some(2);
         }
         return Some(0);
     }
-    if lexer::class(b) < limits::HEX {
+    if q == 1 {
         return Some(0);
     }
     None
