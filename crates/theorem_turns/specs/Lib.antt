@@ -3,3 +3,4 @@ pub mod Loops
 pub mod Lists
 pub mod Turned
 pub mod Turns
+pub mod Ranks
