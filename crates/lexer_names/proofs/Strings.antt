@@ -3,13 +3,16 @@
 use mathlib.Core.Path.{◌≡◌, refl, sym, ap, ◌∙◌, subst}
 use mathlib.Core.List.{List, [], ◌∷◌}
 use mathlib.Core.Bool.{Bool, true, false}
+use mathlib.Core.Option.{Option, none, some}
 use Prim.Native.Nat.{ℕ, zero, suc, ◌+◌, ◌-◌, ◌≤◌, ◌<◌}
 use native.Mathlib.Nat.{add-zero}
 use native.Mathlib.Omega.{arith}
-use lib.ListN.{length, get_or, take, drop, length-drop}
-use lib.Seq.{length-take-le, take-take}
-use lib.Dec.{eqb}
-use borrow.Author.Tests.{eq-eqb, ne_eqb}
+use lib.ListN.{length, get_or, take, drop, length-drop, drop_of_length-le}
+use lib.Seq.{length-take-le, take-take, drop-drop, get_or-drop}
+use lib.Dec.{eqb, ltb}
+use Rattle.std.proofs.Math.Option.{some-injective, some-ne-none, none-ne-some}
+use Rattle.program.specs.Class.{is_hex}
+use borrow.Author.Tests.{eq-eqb, ne_eqb, eqb-true, ltb-true, ltb-false}
 use Rattle.program.specs.Choice.{pick}
 use Rattle.program.specs.Prog.{ret, fail, here, scan, ok, no_at, run, byte_at, scan_len}
 use Rattle.program.specs.Local.{scan_len_le}
@@ -17,12 +20,12 @@ use Rattle.records.specs.Words.{pack}
 use Rattle.grammar.specs.Lexer.{refuse, is_byte, byte_if, state_of, name_step, quote_step, Word, plain, quoted, size_of, is_empty, is_empty_word, quote_end, read_word, name_of, balance_step, cstring_step, cstring_end, cstring_at}
 use Rattle.lexer.specs.Step.{bumped, taken, StopAt}
 use Rattle.lexer.specs.Reads.{Aim, Finds, Gives, Inside}
-use Rattle.lexer_names.specs.Names.{part, is_quoted, inner, raw_word, WordIs, no_word}
+use Rattle.lexer_names.specs.Names.{part, is_quoted, inner, raw_word, WordIs, no_word, plain_step, step_at}
 use Rattle.lexer.specs.declared.Cursor.{Cursor}
 use Rattle.lexer.specs.Parsed.{Parsed, Ok, Refused}
 use Rattle.lexer.specs.declared.Stop.{Stop}
 use Rattle.program.specs.Lists.{drop_next}
-use Rattle.lexer.proofs.Scan.{scan_some, scan_stop, byte_inside, byte_in}
+use Rattle.lexer.proofs.Scan.{Going, going_more, going_stop, going_out, scan_some, scan_stop, byte_inside, byte_in}
 use Rattle.lexer.proofs.Laws.{bump_in, byte_run, run_eat, scan_run, some_byte, given, gone, kept, g_done}
 
 -- ---- up to the byte that closes
@@ -179,6 +182,154 @@ name_some {text} {p} i n v from to e s h l f = record {
 }
 
 -- ---- byte strings
+-- bytes that stand for themselves leave the automaton in state 0
+module _ (x : ℕ) (s : List ℕ) where
+  plain_ends : plain_step 0 x ≡ none → scan_len plain_step 0 (x ∷ s) ≡ 0
+  unfolding scan_len
+  plain_ends e = rw (scan_len, e) refl
+
+  module _ (e : plain_step 0 x ≡ some 0) (f : cstring_step 0 x ≡ some 0) where
+    plain_more : scan_len plain_step 0 (x ∷ s) ≡ suc (scan_len plain_step 0 s)
+    unfolding scan_len
+    plain_more = rw (scan_len, e) refl
+
+    plain_passed : scan_len cstring_step 0 (x ∷ s) ≡ suc (scan_len cstring_step 0 s)
+    unfolding scan_len
+    plain_passed = rw (scan_len, f) refl
+
+    plain_kept : state_of cstring_step 0 (taken cstring_step 0 (x ∷ s)) ≡ state_of cstring_step 0 (taken cstring_step 0 s)
+    unfolding state_of
+    plain_kept = rw (plain_passed, state_of, f) refl
+
+-- the first n bytes stand for themselves, and no more
+record PlainTo (s : List ℕ) (n : ℕ) : Type 0 where
+  place : scan_len cstring_step 0 s ≡ n + scan_len cstring_step 0 (drop n s)
+  state : state_of cstring_step 0 (taken cstring_step 0 s) ≡ state_of cstring_step 0 (taken cstring_step 0 (drop n s))
+  stop : n < length s → plain_step 0 (get_or s n 0) ≡ none
+
+plain_to : (s : List ℕ) → PlainTo s (scan_len plain_step 0 s)
+unfolding scan_len plain_step cstring_step
+plain_to [] = record { place = refl; state = refl; stop = λ h. absurd (omega arith) }
+plain_to (x ∷ s) = go (eqb x 34) (eqb x 92) refl refl (plain_to s)
+  where
+    none_at : plain_step 0 x ≡ none → PlainTo (x ∷ s) (scan_len plain_step 0 (x ∷ s))
+    none_at e = rw (plain_ends x s e) (record { place = omega arith; state = refl; stop = λ h. e })
+
+    go : (a b : Bool) → eqb x 34 ≡ a → eqb x 92 ≡ b → PlainTo s (scan_len plain_step 0 s) → PlainTo (x ∷ s) (scan_len plain_step 0 (x ∷ s))
+    go true b e f t = none_at (rw e refl)
+    go false true e f t = none_at (rw (e, f) refl)
+    go false false e f t =
+        let p : plain_step 0 x ≡ some 0 = rw (e, f) refl in
+        let c : cstring_step 0 x ≡ some 0 = rw (e, f) refl in
+        rw (plain_more x s p c) (record {
+          place = plain_passed x s p c ∙ omega (arith, t.place);
+          state = plain_kept x s p c ∙ t.state;
+          stop = λ h. t.stop (omega arith);
+        })
+
+-- the automaton is in state 0 at i, where a byte that does not stand for itself is, or the end
+abbrev pub Between : (text : List ℕ) (at i : ℕ) → Type 0
+Between text at i = Going cstring_step text at i 0 × (i < length text → plain_step 0 (get_or text i 0) ≡ none)
+
+module _ (text : List ℕ) (at i : ℕ) where
+  pub between : (j : ℕ) → Going cstring_step text at i 0 → j ≡ i + scan_len plain_step 0 (drop i text) → Between text at j
+  between j g e =
+      let n : ℕ = scan_len plain_step 0 (drop i text) in
+      let d : drop n (drop i text) ≡ drop j text = drop-drop n i text ∙ ap (λ (k : ℕ). drop k text) (sym e) in
+      let t : PlainTo (drop i text) n = plain_to (drop i text) in
+      let l : scan_len cstring_step 0 (drop i text) ≡ n + scan_len cstring_step 0 (drop j text) = t.place ∙ ap (λ (s : List ℕ). n + scan_len cstring_step 0 s) d in (
+        record {
+          place = g.place ∙ omega (arith, l, e);
+          state = g.state ∙ (t.state ∙ ap (λ (s : List ℕ). state_of cstring_step 0 (taken cstring_step 0 s)) d);
+        },
+        λ h. rw (e, ← get_or-drop i text n 0) (t.stop (omega (arith, length-drop i text))),
+      )
+
+  pub between_stops : is_byte 92 (byte_at (drop i text)) ≡ false → Between text at i → StopAt cstring_step text at (record { at = i; q = 0 })
+  unfolding cstring_step plain_step
+  between_stops e g = go (ltb i (length text)) refl
+    where
+      quote : (x : ℕ) → eqb x 92 ≡ false → plain_step 0 x ≡ none → cstring_step 0 x ≡ none
+      quote x f p = two (eqb x 34) refl
+        where
+          two : (a : Bool) → eqb x 34 ≡ a → cstring_step 0 x ≡ none
+          two true u = rw u refl
+          two false u = absurd (some-ne-none 0 (rw (u, f) at p))
+
+      go : (z : Bool) → ltb i (length text) ≡ z → StopAt cstring_step text at (record { at = i; q = 0 })
+      go true t =
+          let h : i < length text = ltb-true _ _ t in
+          let f : eqb (get_or text i 0) 92 ≡ false = sym (byte_in text i 92 (omega arith) h) ∙ e in
+          going_stop cstring_step text at i 0 h (quote (get_or text i 0) f (g.1 h)) g.0
+      go false t = going_out cstring_step text at i 0 (ltb-false _ _ t) g.0
+
+-- a step of the automaton at a place, and none
+module _ (f : ℕ → ℕ → Option ℕ) (text : List ℕ) (at i q : ℕ) (g : Going f text at i q) where
+  step_more : (j r : ℕ) → j ≡ i + 1 → step_at f q (drop i text) ≡ some r → (i < length text) × Going f text at j r
+  unfolding step_at
+  step_more j r d e = go (ltb i (length text)) refl
+    where
+      go : (z : Bool) → ltb i (length text) ≡ z → (i < length text) × Going f text at j r
+      go true t =
+          let h : i < length text = ltb-true _ _ t in
+          (h, rw d (going_more f text at i q r h (rw (drop_next text i h) at e) g))
+      go false t = absurd (none-ne-some r (rw (drop_of_length-le text (ltb-false _ _ t)) at e))
+
+  pub step_none : step_at f q (drop i text) ≡ none → StopAt f text at (record { at = i; q = q })
+  unfolding step_at
+  step_none e = go (ltb i (length text)) refl
+    where
+      go : (z : Bool) → ltb i (length text) ≡ z → StopAt f text at (record { at = i; q = q })
+      go true t =
+          let h : i < length text = ltb-true _ _ t in
+          going_stop f text at i q h (rw (drop_next text i h) at e) g
+      go false t = going_out f text at i q (ltb-false _ _ t) g
+
+-- behind `\` and a digit the automaton is in state 2, and behind two digits in state 0 again
+one_digit : (s : List ℕ) (r : ℕ) → step_at cstring_step 1 s ≡ some r → (r ≡ 0 → ⊥) → r ≡ 2
+unfolding step_at cstring_step
+one_digit [] r e n = absurd (none-ne-some r e)
+one_digit (x ∷ s) r e n = go (is_hex x) e
+  where
+    go : (b : Bool) → pick b (some 2) (some 0) ≡ some r → r ≡ 2
+    go true u = sym (some-injective _ _ u)
+    go false u = absurd (n (sym (some-injective _ _ u)))
+
+two_digits : (s : List ℕ) (r : ℕ) → step_at cstring_step 2 s ≡ some r → r ≡ 0
+unfolding step_at cstring_step
+two_digits [] r e = absurd (none-ne-some r e)
+two_digits (x ∷ s) r e = go (is_hex x) e
+  where
+    go : (b : Bool) → pick b (some 0) none ≡ some r → r ≡ 0
+    go true u = sym (some-injective _ _ u)
+    go false u = absurd (none-ne-some r u)
+
+-- an escape, whose `\` is at i: behind the `\`, behind one byte, and behind two
+module _ (text : List ℕ) (at i : ℕ) (e : is_byte 92 (byte_at (drop i text)) ≡ true) (g : Between text at i) where
+  pub escape_0 : (i < length text) × Going cstring_step text at (i + 1) 1
+  unfolding cstring_step
+  escape_0 =
+      let h : i < length text = byte_inside text i 92 e in
+      let b : get_or text i 0 ≡ 92 = eqb-true _ _ (sym (byte_in text i 92 (omega arith) h) ∙ e) in
+      (h, going_more cstring_step text at i 0 1 h (rw b refl) g.0)
+
+  module _ (r : ℕ) (o : step_at cstring_step 1 (drop (i + 1) text) ≡ some r) where
+    pub escape_1 : (i + 1 < length text) × Going cstring_step text at (i + 2) r
+    escape_1 = step_more cstring_step text at (i + 1) 1 escape_0.1 (i + 2) r (omega arith) o
+
+    module _ (n : r ≡ 0 → ⊥) where
+      digit : Going cstring_step text at (i + 2) 2
+      digit = let z : r ≡ 2 = one_digit (drop (i + 1) text) r o n in rw z at escape_1.1
+
+      pub digit_none : step_at cstring_step 2 (drop (i + 2) text) ≡ none → StopAt cstring_step text at (record { at = i + 2; q = 2 })
+      digit_none = step_none cstring_step text at (i + 2) 2 digit
+
+      pub escape_2 : (t : ℕ) → step_at cstring_step 2 (drop (i + 2) text) ≡ some t → (i + 2 < length text) × Going cstring_step text at (i + 3) 0
+      escape_2 t u =
+          let m : _ = step_more cstring_step text at (i + 2) 2 digit (i + 3) t (omega arith) u in
+          let z : t ≡ 0 = two_digits (drop (i + 2) text) t u in
+          (m.0, rw z at m.1)
+
 cend_run : (i : ℕ) (w : List ℕ) (j : ℕ) (s : List ℕ) (z : Bool) → eqb (state_of cstring_step 0 w) 0 ≡ z → run (cstring_end i w) j s ≡ run (elim z [ true ↦ byte_if 34 (ret (pack i (length w + 2))) (refuse 13) | false ↦ here (λ k. fail (pick (eqb (state_of cstring_step 0 w) 1) 13 14) (k + 1)) ]) j s
 unfolding cstring_end
 cend_run i w j s z e = ap (λ (y : Bool). run (elim y [ true ↦ byte_if 34 (ret (pack i (length w + 2))) (refuse 13) | false ↦ here (λ k. fail (pick (eqb (state_of cstring_step 0 w) 1) 13 14) (k + 1)) ]) j s) e

@@ -3,6 +3,8 @@
 use Rattle.std.specs.Prelude.{◌≡◌, Bool, true, false, List, [], ◌∷◌, ℕ, ◌-◌, ◌<◌, ◌≤◌, eqb, length, take, drop, Option, Some, None}
 use Rattle.program.specs.Bytes.{byte}
 use Rattle.program.specs.Prog.{Prog, ◌>>=◌}
+use Rattle.std.proofs.Math.Option.{Option as Maybe, none, some}
+use Rattle.program.specs.Choice.{pick}
 use Rattle.grammar.specs.Lexer.{Word, plain, quoted, size_of, is_empty_word, unescape, read_word, name_word, eat_ws, byte_if, refuse}
 use Rattle.lexer.specs.Reads.{Gives}
 use Rattle.lexer_names.specs.declared.Letter.{Letter}
@@ -39,6 +41,15 @@ no_word e i = record { p = Refused e i; start = 0; end = 0; empty = true }
 -- white space, and a name with the sigil b
 abbrev pub sigil_name : ℕ → Prog ℕ
 sigil_name b = eat_ws >>= λ _. byte_if b name_word (refuse 3)
+
+-- in a byte string, the bytes that stand for themselves: all but `"` and `\`
+unfoldable pub plain_step : ℕ → ℕ → Maybe ℕ
+plain_step q x = pick (eqb x (byte "\"")) none (pick (eqb x (byte "\\")) none (some 0))
+
+-- an automaton's step at the first byte of s, or none where there is no byte
+unfoldable pub step_at : (ℕ → ℕ → Maybe ℕ) → ℕ → List ℕ → Maybe ℕ
+step_at f q [] = none
+step_at f q (x ∷ s) = f q x
 
 -- a byte string that is not closed
 abbrev pub not_closed : ℕ → Num

@@ -5,7 +5,7 @@ ghost use Rattle.grammar.specs.Lexer.{balance_step, balanced, skip_parens, skip_
 ghost use Rattle.lexer.specs.Step.{step_of, StopAt};
 ghost use Rattle.lexer.specs.Parsed.{Ok};
 ghost use Rattle.lexer.specs.Reads.{Gives};
-ghost use Rattle.lexer_names.specs.Names.{not_closed};
+ghost use Rattle.lexer_names.specs.Names.{not_closed, plain_step, step_at};
 
 use crate::{pack_word, read_word};
 use lexer::{Cursor, Num, Parsed, Stop, limits, scan_text};
@@ -100,30 +100,73 @@ pub fn cstring_step(q: u8, b: u8) -> Option<u8>
     ensures { step_of result ≡ cstring_step q b }
 {
     if q == 0 {
-        return match b {
-            b'"' => None,
-            b'\\' => Some(1),
-            _ => Some(0),
-        };
-    }
-    if lexer::class(b) < limits::HEX {
-        if q == 1 {
-            return Some(2);
+        if b == b'"' {
+            return None;
+        }
+        if b == b'\\' {
+            return Some(1);
         }
         return Some(0);
     }
     if q == 1 {
+        if lexer::class(b) < limits::HEX {
+            return Some(2);
+        }
+        return Some(0);
+    }
+    if lexer::class(b) < limits::HEX {
         return Some(0);
     }
     None
 }
 
-// Where a byte string stops that begins there. A function of its own: in the midst of a reader the loop is compiled to half its speed.
+// A byte that stands for itself in a byte string: the one state, or none at `"` and `\`.
+fn plain_step(q: u8, b: u8) -> Option<u8>
+    ensures { step_of result ≡ plain_step q b }
+{
+    match b {
+        b'"' => None,
+        b'\\' => None,
+        _ => Some(0),
+    }
+}
+
+// The place behind the bytes at `at` that stand for themselves.
+fn plain_end(text: &[u8], at: usize) -> usize
+    ensures { result ≡ at + scan_len plain_step 0 (drop at text.now) }
+{
+    scan_text(text, at, plain_step).at
+}
+
+// The state behind the byte at `at`, or none where the automaton stops there or the text ends.
+fn step_at(text: &[u8], q: u8, at: usize) -> Option<u8>
+    ensures { step_of result ≡ step_at cstring_step q (drop at text.now) }
+{
+    match text.get(at) {
+        Some(b) => cstring_step(q, *b),
+        None => None,
+    }
+}
+
+// Where a byte string stops that begins there. Nearly all of its bytes stand for themselves and need no state: the automaton is asked in escapes alone,
+// which are a byte that is no digit behind the `\`, or two digits. A function of its own: in the midst of a reader
+// a loop over such bytes was compiled to half its speed.
 #[inline(never)]
 fn cstring_end(text: &[u8], at: usize) -> Stop
     ensures { StopAt cstring_step text.now at result }
 {
-    scan_text(text, at, cstring_step)
+    let mut i = plain_end(text, at);
+    while lexer::at_byte(text, i, b'\\') {
+        match step_at(text, 1, i + 1) {
+            None => return Stop { at: i + 1, q: 1 },
+            Some(0) => i = plain_end(text, i + 2),
+            Some(_) => match step_at(text, 2, i + 2) {
+                None => return Stop { at: i + 2, q: 2 },
+                Some(_) => i = plain_end(text, i + 3),
+            },
+        }
+    }
+    Stop { at: i, q: 0 }
 }
 
 // A byte string at the cursor, behind its quote, which is at `at`. Where an escape is cut off the byte behind the cursor is taken before the refusal.

@@ -55,6 +55,8 @@ pub fn ask(lent: Lent, spot: Spot, size: Size) -> Verdict
 
 // "the old pieces from the first such are kept, shifted, and 20 and 21 are asked of them too": of the old pieces from `from` on, which
 // come to stand there.
+// A function of its own: in the midst of a re-reading the loop would keep what it counts in memory.
+#[inline(never)]
 pub fn room_kept(directory: &[u64], older: Older, from: usize, spot: Spot) -> Verdict
     requires entry_words_in_bounds { older.entries * entry_words ≤ length directory.now }
     requires directory_bound { spot.pos + old_sizes (drop from (olds_of older.entries directory.now)) < half_limit }
